@@ -10,7 +10,6 @@ pub mod SumLaws
 pub mod CostLaws
 pub mod BeforeLaws
 pub mod AskedLaws
-pub mod UpkeepLaws
 pub mod MaintLaws
 pub mod ItemLaws
 pub mod HourLaws

@@ -23,10 +23,11 @@ use Rattle.added_legs.specs.declared.added.Added.{Added}
 use Rattle.added_legs.specs.Merged.{added_for, leg_for, row_for, merged_day, merged_plan}
 use Rattle.added_legs.proofs.MergedLaws.{old_leg, new_leg, new_row, merged_legs}
 use Rattle.added_legs.specs.declared.flight.Flight.{Flight}
-use Rattle.added_legs.specs.declared.upkeep.Upkeep.{Upkeep}
+use Rattle.plan_checks.specs.declared.upkeep.Upkeep.{Upkeep}
 use Rattle.added_legs.specs.Flights.{flight_of}
 use Rattle.added_legs.specs.Stands.{stand_with}
-use Rattle.added_legs.specs.Asked.{start_of, IsUpkeep, with_flight, makes_it, is_within}
+use Rattle.plan_checks.specs.Upkeep.{start_of, IsUpkeep}
+use Rattle.added_legs.specs.Asked.{with_flight, makes_it, is_within}
 use Rattle.added_legs.proofs.LastLaws.{row_old, not_own, later, last_before}
 use Rattle.added_legs.proofs.EndLaws.{later_stand}
 use Rattle.added_legs.proofs.SumLaws.{sum_split, sum_same, sum_more}

@@ -1,20 +1,17 @@
 -- What the rules C4 to C9 ask where aircraft have added legs, by the legs of the plan and the added leg of an aircraft.
-use Rattle.std.specs.Prelude.{◌≡◌, ℕ, ◌+◌, ◌*◌, ◌<◌, ◌≤◌, Bool, true, false, ◌&&◌, ◌||◌, not, ◌==◌, nat_lt, nat_le, if◌then◌else◌, sum_by, List, length, slice_index_or, Option, Some, None}
+use Rattle.std.specs.Prelude.{ℕ, ◌+◌, Bool, true, ◌&&◌, ◌||◌, not, ◌==◌, nat_lt, nat_le, if◌then◌else◌, List, slice_index_or, Option, Some, None}
 use Rattle.std.specs.List.{list_any}
-use Rattle.std.specs.Option.{ForSome}
 use Rattle.desk_units.specs.declared.numbers.Leg.{Leg}
 use Rattle.desk_data.specs.declared.info.Maint.{Maint}
 use Rattle.desk_data.specs.declared.row.Row.{Row}
 use Rattle.desk_data.specs.declared.row.Row.TheVariants.{Flown, Cancelled}
-use Rattle.desk_data.specs.Situation.{Situation, planes_of, leg_at, plane_at, spans}
+use Rattle.desk_data.specs.Situation.{Situation, leg_at, plane_at, spans}
 use Rattle.desk_data.specs.PlanRows.{PlanRows}
-use Rattle.desk_rules.specs.Numbers.{numbers, none_below}
-use Rattle.desk_rules.specs.Rotations.{dep, arr, ground_time}
+use Rattle.desk_rules.specs.Rotations.{arr, ground_time}
 use Rattle.desk_rules.specs.Rules.{meets_span}
-use Rattle.desk_rules.specs.Maintenance.{flies, departs_before, departs_from}
 use Rattle.plan_reads.specs.Last.{stand}
 use Rattle.added_legs.specs.declared.flight.Flight.{Flight}
-use Rattle.added_legs.specs.declared.upkeep.Upkeep.{Upkeep}
+use Rattle.plan_checks.specs.declared.upkeep.Upkeep.{Upkeep}
 use Rattle.added_legs.specs.Stands.{is_after, stand_with}
 
 -- ---- a leg of the plan, with the leg of the plan before it on its aircraft
@@ -59,35 +56,13 @@ c7_added I p f = (plane_at I p).surface || not (list_any (λ span. meets_span f.
 
 -- ---- the maintenance of aircraft p
 
--- what is said of no aircraft
-abbrev pub no_upkeep : Upkeep
-no_upkeep = record { stops = false; free = false; minutes = 0 }
-
--- what no legs say
-abbrev pub blank : Upkeep
-blank = record { stops = true; free = true; minutes = 0 }
-
-abbrev pub start_of : Option Maint → ℕ
-start_of None = 0
-start_of (Some maint) = maint.from.0
-
--- what the first n legs of the plan say of a maintenance
-pub record IsUpkeep (I : Situation) (P : PlanRows) (p : ℕ) (maint : Maint) (n : ℕ) (upkeep : Upkeep) : Type 0 where
-  pub stops : upkeep.stops ≡ none_below n (departs_from P p maint.from.0)
-  pub free : upkeep.free ≡ none_below n (λ x. flies P p x && meets_span (dep P x) (arr I P x) maint.from maint.to)
-  pub minutes : upkeep.minutes ≡ sum_by (λ x. if departs_before P p maint.from.0 x then (leg_at I x).block else 0) (numbers n)
-  pub few : upkeep.minutes ≤ 2880 * n
-
-pub record AreUpkeeps (I : Situation) (P : PlanRows) (n : ℕ) (upkeeps : List Upkeep) : Type 0 where
-  pub planes : length upkeeps ≡ planes_of I
-  pub each : (p : ℕ) → p < planes_of I → ForSome (plane_at I p).maint (λ maint. IsUpkeep I P p maint n (slice_index_or upkeeps p no_upkeep))
-
--- the same with the added leg
+-- what the legs of the plan say of it, and the added leg
 abbrev pub with_flight : Maint → Upkeep → Option Flight → Upkeep
 with_flight maint upkeep None = upkeep
 with_flight maint upkeep (Some f) = record {
   stops = upkeep.stops && nat_lt f.dep.0 maint.from.0;
   free = upkeep.free && not (meets_span f.dep.0 (f.dep.0 + f.minutes) maint.from maint.to);
+  last = upkeep.last;
   minutes = upkeep.minutes + (if nat_lt f.dep.0 maint.from.0 then f.minutes else 0);
 }
 

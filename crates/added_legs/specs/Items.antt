@@ -14,7 +14,7 @@ use Rattle.added_legs.specs.declared.rule.Rule.{Rule}
 use Rattle.added_legs.specs.declared.rule.Rule.TheVariants.{C4Range, C5Location, C6GroundTime, C7Service, C8Maintenance, C9Minutes}
 use Rattle.added_legs.specs.declared.rule.Known.{Known}
 use Rattle.added_legs.specs.Flights.{AreFlights, departure_end}
-use Rattle.added_legs.specs.Asked.{AreUpkeeps, start_of}
+use Rattle.plan_checks.specs.Upkeep.{AreUpkeeps, start_of}
 
 -- whether leg x keeps one of the rules of legs; the rules of aircraft ask nothing of it
 abbrev pub leg_keeps : Situation → PlanRows → Rule → ℕ → Bool

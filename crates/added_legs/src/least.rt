@@ -15,10 +15,11 @@ ghost use Rattle.added_legs.specs.Items.{AreKnown, items_of, six_rules};
 use crate::flight::{Flight, put_flights};
 use crate::rule::{Known, Rule, first_broken};
 use crate::slots::first_overfull;
-use crate::upkeep::{Starts, upkeeps_of};
+use crate::upkeep::Starts;
 use crate::{AddBroken, Added};
 use desk_data::{Instance, Leg, Minute, NoMem, Plan, Plane};
 use hour_counts::Movement;
+use plan_checks::upkeeps_of;
 use plan_reads::{Moments, legs_before, put_lasts};
 use std::alloc::Global;
 

@@ -48,4 +48,4 @@ pub use laws::{
     only_one_list_is_ferried,
 };
 pub use least::least_added;
-pub use upkeep::{Starts, Upkeep, upkeeps_of};
+pub use upkeep::Starts;

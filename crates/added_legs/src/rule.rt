@@ -12,9 +12,10 @@ ghost use Rattle.added_legs.specs.Items.{AreKnown, count, is_of_planes, item_of,
 use crate::extra_leg::{c4_added, c5_added, c6_added, c7_added};
 use crate::flight::Flight;
 use crate::plan_leg::{c5_with, c6_with};
-use crate::upkeep::{Upkeep, c8_maintenance, c9_minutes};
+use crate::upkeep::{c8_maintenance, c9_minutes};
 use crate::{AddBroken, Added};
 use desk_data::{Broken, Instance, Leg, Plan, Plane};
+use plan_checks::Upkeep;
 use plan_reads::{c4_range, c7_service};
 
 /// A rule of C4 to C9: C4 to C7 ask something of each leg, C8 and C9 of each aircraft.

@@ -12,6 +12,8 @@
 //! joined and they vote (`vote_on` of desk_teams): it is quiet where all report of one plan, the last, that their shard is.
 //! Where a thread can't be started, the caller does its work.
 //!
+//! A descent that has no workers finds here what it searches with, `Finder` and `first_better_heard` of near_search.
+//!
 //! Proved, of each round: it reports `NoPlan`, `Spent`, `Quiet` or `Answered` exactly where the definitions say so of the
 //! history that it saw, and it adds at most one entry, which its trail then names, and none where memory runs out. Proved of
 //! `rounds`: what is voted was reported at the last plan and holds of the last history, after which no move near the plan is
@@ -31,4 +33,5 @@ pub use desk_core::Book;
 pub use desk_teams::{End, Report, Trail, Vote};
 pub use laps::rounds;
 pub use laws::passes_that_came_back_leave_nothing_out;
+pub use near_search::{Finder, first_better_heard};
 pub use worker::Worker;

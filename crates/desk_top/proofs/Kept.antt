@@ -14,7 +14,7 @@ use Rattle.desk_words.specs.declared.asked.Command.TheVariants as command_is
 use Rattle.desk_tasks.specs.Inputs.{Inputs}
 use Rattle.desk_tasks.specs.Play.{history}
 use Rattle.desk_tasks.specs.Keep.{KeptStory}
-use Rattle.book_commands.specs.Own.{CanBeStored}
+use Rattle.story_commands.specs.Own.{CanBeStored}
 use Rattle.desk_tasks.specs.Story.{Rows, rows_of, kept_of_rows, kept_of, or_refused, not_joined, in_file}
 use Rattle.desk_top.specs.Due.{AreDue}
 use Rattle.desk_top.proofs.Parts.{bound, same_Ok, or_refused-Ok}

@@ -12,12 +12,12 @@ use Rattle.desk_tasks.specs.Inputs.{Inputs}
 use Rattle.desk_tasks.specs.Runs.{World, world}
 use Rattle.desk_tasks.specs.Keep.{KeptStory}
 use Rattle.desk_tasks.specs.Story.{kept_of}
-use Rattle.book_commands.specs.Held.{entered, story_payloads}
-use Rattle.book_commands.specs.Own.{Extends, IsOwn, OpensFor}
-use Rattle.book_commands.specs.Journal.{LeavesJournal, OnlyOpens, PassesComparison}
-use Rattle.book_commands.proofs.Exact.{undamaged, no_others}
-use Rattle.book_commands.proofs.Owned.{own_begins, own_goes_on, own_kept, own_opens}
-use Rattle.book_commands.proofs.Continued.{own_grows, passed_moments, passed_whole}
+use Rattle.story_commands.specs.Held.{entered, story_payloads}
+use Rattle.story_commands.specs.Own.{Extends, IsOwn, OpensFor}
+use Rattle.story_commands.specs.Journal.{LeavesJournal, OnlyOpens, PassesComparison}
+use Rattle.story_commands.proofs.Exact.{undamaged, no_others}
+use Rattle.story_commands.proofs.Owned.{own_begins, own_goes_on, own_kept, own_opens}
+use Rattle.story_commands.proofs.Continued.{own_grows, passed_moments, passed_whole}
 use Rattle.desk_top.proofs.Few.{kept_few}
 use Rattle.desk_top.proofs.Kept.{kept_stored}
 use Rattle.desk_top.specs.Store.{HoldsAll, IsOpenedNext, JournalSays, Keeps, StandsAlways}

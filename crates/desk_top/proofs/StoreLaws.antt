@@ -23,8 +23,8 @@ use Rattle.desk_tasks.proofs.CausesLaw.{status_cases}
 use Rattle.desk_tasks.proofs.Composed.{Prepares, obeys-done, obeys-memory, runs-tells_end}
 use Rattle.desk_tasks.proofs.PromisedLaw.{promised}
 use Rattle.desk_tasks.specs.Keep.{KeptStory, kept}
-use Rattle.book_commands.specs.Journal.{EndsEarly, EndsWritten, IsEarly, KeepsStory, LeavesJournal, OnlyOpens, PassesComparison, WhereShown}
-use Rattle.book_commands.proofs.Opening.{read_opens}
+use Rattle.story_commands.specs.Journal.{EndsEarly, EndsWritten, IsEarly, KeepsStory, LeavesJournal, OnlyOpens, PassesComparison, WhereShown}
+use Rattle.story_commands.proofs.Opening.{read_opens}
 use Rattle.desk_tasks.specs.Story.{kept_of}
 use Rattle.desk_top.proofs.Kept.{kept_stored}
 use Rattle.desk_top.specs.Store.{kept_meaning, RunsKept, StandsAlways, HoldsAll, HoldsSince, HasBegun, IsWrittenAt, WritesNothing}

@@ -19,7 +19,7 @@ use Rattle.desk_tasks.specs.Facts.{as_kept, CanBeRun}
 use Rattle.desk_tasks.specs.StoryReading.{StopsAtFault, HasReadCause, GivesTask}
 use Rattle.day_orders.specs.declared.orders.Batch.{Batch}
 use Rattle.desk_model.specs.declared.answer.Event.{Event}
-use Rattle.book_commands.specs.Journal.{kept_story, KeepsStory}
+use Rattle.story_commands.specs.Journal.{kept_story, KeepsStory}
 use Rattle.desk_top.specs.Store.{kept_meaning}
 use Rattle.desk_top.specs.Obeyed.{SetsNoStory, ObeysStore}
 

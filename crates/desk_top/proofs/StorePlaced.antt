@@ -30,7 +30,7 @@ use Rattle.desk_tasks.specs.Runs.{World, world, TellsEnd, status_after}
 use Rattle.desk_tasks.proofs.Composed.{here, at, Tries, obeys-memory, runs-placed, runs-tells_end}
 use Rattle.desk_tasks.proofs.PromisedLaw.{promised}
 use Rattle.desk_tasks.specs.Keep.{KeptStory}
-use Rattle.book_commands.specs.Journal.{IsOnlyRead, IsOpened, LeavesJournal, OnlyOpens, PassesComparison, WhereShown}
+use Rattle.story_commands.specs.Journal.{IsOnlyRead, IsOpened, LeavesJournal, OnlyOpens, PassesComparison, WhereShown}
 use Rattle.desk_top.specs.Store.{kept_directories, kept_meaning, AreCounted, EndsAtDisk, FailsToName, JournalSays, RunsKept, RunsOnDisk, Keeps, StandsAlways, HoldsAll, HoldsSince, HasBegun, IsPlacedAt, IsWrittenAt, UnlessNamed, WritesNothing}
 use Rattle.desk_top.proofs.Placed.{obeys-unplaced, obeys-unnamed, unbegun-tells_end}
 use Rattle.desk_top.proofs.StoreLaws.{only_opens, shown_is}

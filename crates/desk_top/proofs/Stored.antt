@@ -27,7 +27,7 @@ use Rattle.desk_tasks.specs.Headline.{HasKept}
 use Rattle.desk_tasks.proofs.HeadlineLaw.{has-kept}
 use Rattle.desk_tasks.specs.Story.{task_of, kept_of}
 use Rattle.desk_tasks.proofs.TaskLaws.{same-story, SameStory}
-use Rattle.book_commands.specs.Journal.{WhereShown}
+use Rattle.story_commands.specs.Journal.{WhereShown}
 use Rattle.desk_top.specs.Store.{kept_meaning, AreCounted, HoldsSince, IsStored, RunsOnDisk}
 
 status_is : (s : Story) (held : ℕ) (h : List Entry) → h ≡ run (opening s.day) s.events → (kept held s).status ≡ plan_status (state (opening s.day) h).broken

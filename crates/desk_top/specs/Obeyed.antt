@@ -8,7 +8,7 @@ use Rattle.desk_tasks.specs.declared.ending.Ending.TheVariants as ending
 use Rattle.desk_tasks.specs.Runs.{World, world, IsUnreported, Obeys}
 use Rattle.desk_tasks.proofs.Composed.{here, Prepares}
 use Rattle.desk_tasks.specs.Keep.{KeptStory}
-use Rattle.book_commands.specs.Journal.{KeepsStory}
+use Rattle.story_commands.specs.Journal.{KeepsStory}
 use Rattle.desk_top.specs.Store.{kept_meaning}
 
 -- how a run ends whose input sets no story

@@ -28,9 +28,9 @@ use Rattle.desk_tasks.specs.Keep.{KeptStory, kept}
 use Rattle.desk_tasks.specs.Tasks.{play, IsRunnable}
 use Rattle.desk_tasks.specs.Headline.{HasKept}
 use Rattle.desk_tasks.specs.Story.{Rows, rows_of, task_of, kept_of}
-use Rattle.book_commands.specs.Held.{entered}
-use Rattle.book_commands.specs.Journal.{IsKept, LeavesJournal, OnlyOpens, PassesComparison, WhereShown}
-use Rattle.book_commands.specs.Own.{CanBeStored, IsOwn, OpensFor}
+use Rattle.story_commands.specs.Held.{entered}
+use Rattle.story_commands.specs.Journal.{IsKept, LeavesJournal, OnlyOpens, PassesComparison, WhereShown}
+use Rattle.story_commands.specs.Own.{CanBeStored, IsOwn, OpensFor}
 
 -- the directories of words that ask for a journal on a disk
 abbrev pub kept_directories : Option Asking → Option Directories

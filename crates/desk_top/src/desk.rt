@@ -18,7 +18,7 @@ ghost use Rattle.desk_tasks.specs.Runs.{Between};
 ghost use Rattle.desk_tasks.specs.Causes.{IsDoneAt};
 ghost use Rattle.desk_tasks.proofs.Composed.{at};
 ghost use Rattle.desk_tasks.specs.Story.{kept_of};
-ghost use Rattle.book_commands.specs.Journal.{OnlyOpens, WhereShown};
+ghost use Rattle.story_commands.specs.Journal.{OnlyOpens, WhereShown};
 ghost use Rattle.desk_top.specs.Store.{kept_directories, HasBegun, HoldsAll, IsAtMostNamed, IsPlacedAt, IsStored, IsWrittenAt, RunsOnDisk, StandsAlways, UnlessNamed};
 ghost use Rattle.desk_top.specs.Desk.{Runs, RunsAsPromised, IsReplayed, IsReplayedWithCrews, IsRecovered, IsRecoveredByTeam, IsTried, IsChecked, IsCheckedWithCrews, IsFerriedPlan, IsGenerated};
 

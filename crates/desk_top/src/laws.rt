@@ -8,9 +8,9 @@ ghost use Rattle.desk_tasks.specs.declared.ending.DiskEnd.TheVariants.{Fault};
 ghost use Rattle.desk_tasks.specs.Inputs.{Inputs};
 ghost use Rattle.desk_tasks.specs.Keep.{KeptStory};
 ghost use Rattle.desk_tasks.specs.Story.{kept_of};
-ghost use Rattle.book_commands.specs.Held.{entered, story_payloads};
-ghost use Rattle.book_commands.specs.Own.{Extends, IsOwn, OpensFor};
-ghost use Rattle.book_commands.specs.Journal.{OnlyOpens};
+ghost use Rattle.story_commands.specs.Held.{entered, story_payloads};
+ghost use Rattle.story_commands.specs.Own.{Extends, IsOwn, OpensFor};
+ghost use Rattle.story_commands.specs.Journal.{OnlyOpens};
 ghost use Rattle.desk_top.specs.Store.{HoldsAll, IsOpenedNext, JournalSays, Keeps, StandsAlways};
 
 /// What one run of an input leaves the next one opens, whatever moment the first was stopped at, and the input has only to be

@@ -11,7 +11,6 @@ ghost use Rattle.desk_tasks.specs.Facts.{as_task, CanBeDone};
 ghost use Rattle.desk_top.specs.Desk.{Obeys, RunsWith, RunsAsPromised};
 
 use crate::day::write_day;
-use book_commands::{play_beside_crews, play_events, recover_day, try_day};
 use desk_folder::{Folder, FolderFault, Sink, put_report};
 use desk_tasks::{
     Ending, InputCrewedPlan, InputCrewedStory, InputPlan, InputRecovery, InputStory, InputTask,
@@ -19,8 +18,10 @@ use desk_tasks::{
 };
 use desk_units::Listener;
 use desk_words::Command;
+use recovery_commands::{recover_day, try_day};
 use std::alloc::Global;
 use std::thread::Threads;
+use story_commands::{play_beside_crews, play_events};
 
 // Does what the input asks for, and writes what it comes to.
 fn do_task<R: Threads + Sync, F: Folder, O: Sink, L: Listener>(

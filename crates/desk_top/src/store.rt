@@ -11,16 +11,16 @@ ghost use Rattle.desk_tasks.specs.Commands.{asked_here, files_read};
 ghost use Rattle.desk_tasks.specs.Inputs.{Inputs, Tells};
 ghost use Rattle.desk_tasks.specs.Runs.{Between};
 ghost use Rattle.desk_tasks.specs.Story.{kept_of};
-ghost use Rattle.book_commands.specs.Journal.{OnlyOpens, WhereShown};
+ghost use Rattle.story_commands.specs.Journal.{OnlyOpens, WhereShown};
 ghost use Rattle.desk_top.specs.Store.{HasBegun, HoldsAll, IsWrittenAt, RunsKept, StandsAlways};
 ghost use Rattle.desk_top.specs.Obeyed.{ObeysStore};
 
 use crate::plain::tell;
-use book_commands::keep_events;
 use desk_disk::Disk;
 use desk_folder::{Folder, Sink};
 use desk_tasks::{Ending, InputKept, InputStory, read_kept};
 use std::alloc::Global;
+use story_commands::keep_events;
 
 // Reads the story that the files give, and keeps it.
 fn obey_store<F: Folder, O: Sink, D: Disk>(

@@ -13,10 +13,10 @@ ghost use Rattle.desk_tasks.specs.Facts.{as_task, CanBeDone};
 ghost use Rattle.desk_top.specs.Desk.{ObeysSomehow, Runs, RunsAsPromised, IsRecoveredByTeam};
 
 use crate::plain::tell;
-use book_commands::{Team, recover_by_team};
 use desk_folder::{Folder, Gate, Sink};
 use desk_tasks::{Ending, InputRecovery, InputTask, read_task};
 use desk_words::Command;
+use recovery_commands::{Team, recover_by_team};
 use std::alloc::Global;
 use std::sync::Wait;
 use std::thread::Threads;

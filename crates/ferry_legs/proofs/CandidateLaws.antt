@@ -14,10 +14,10 @@ use Rattle.added_legs.specs.declared.added.Added.{Added}
 use Rattle.added_legs.specs.Added.{least_added}
 use Rattle.added_legs.specs.Merged.{IsAdded, AreAdded, added_for, way_to}
 use Rattle.added_legs.specs.Ferried.{with_added, fits, ready, minute, added_leg, may_go, moments, candidate}
-use Rattle.added_legs.specs.Asked.{start_of}
-use Rattle.added_legs.specs.declared.upkeep.Upkeep.{Upkeep}
+use Rattle.plan_checks.specs.Upkeep.{start_of}
+use Rattle.plan_checks.specs.declared.upkeep.Upkeep.{Upkeep}
 use Rattle.ferry_legs.specs.declared.way.Way.{Way}
-use Rattle.added_legs.specs.Asked.{AreUpkeeps}
+use Rattle.plan_checks.specs.Upkeep.{AreUpkeeps}
 use Rattle.ferry_legs.specs.Departs.{way_of, can_depart, IsFirst, moments_end}
 use Rattle.ferry_legs.proofs.FirstLaws.{said_found}
 use Rattle.ferry_legs.proofs.FitLaws.{fits_is}

@@ -23,10 +23,10 @@ use Rattle.added_legs.specs.Merged.{IsAdded, AreAdded, added_for, merged_day, me
 use Rattle.added_legs.specs.Ferried.{with_added, fits, ready}
 use Rattle.added_legs.proofs.MergedLaws.{merged_legs}
 use Rattle.added_legs.proofs.NoneLaws.{same_dep_cap, same_arr_cap}
-use Rattle.added_legs.specs.Asked.{start_of}
-use Rattle.added_legs.specs.declared.upkeep.Upkeep.{Upkeep}
+use Rattle.plan_checks.specs.Upkeep.{start_of}
+use Rattle.plan_checks.specs.declared.upkeep.Upkeep.{Upkeep}
 use Rattle.ferry_legs.specs.declared.way.Way.{Way}
-use Rattle.added_legs.specs.Asked.{AreUpkeeps, no_upkeep}
+use Rattle.plan_checks.specs.Upkeep.{AreUpkeeps, no_upkeep}
 use Rattle.ferry_legs.specs.Departs.{way_of, is_in_service, keeps_maintenance, airport_of, moment_of, count_of, cap_of, is_below, has_room, has_slot, can_depart}
 use Rattle.ferry_legs.specs.Taken.{takes}
 use Rattle.ferry_legs.proofs.CountLaws.{merged_count, taken_more}

@@ -22,9 +22,10 @@ use Rattle.added_legs.specs.Merged.{added_for, merged_day, merged_plan}
 use Rattle.added_legs.specs.Ferried.{with_added}
 use Rattle.added_legs.specs.Flights.{flight_of}
 use Rattle.added_legs.specs.Stands.{is_after, stand_with}
-use Rattle.added_legs.specs.Asked.{start_of, with_flight, makes_it, is_within, IsUpkeep}
+use Rattle.plan_checks.specs.Upkeep.{start_of, IsUpkeep}
+use Rattle.added_legs.specs.Asked.{with_flight, makes_it, is_within}
 use Rattle.added_legs.proofs.MaintLaws.{c8_is, c9_is}
-use Rattle.added_legs.specs.declared.upkeep.Upkeep.{Upkeep}
+use Rattle.plan_checks.specs.declared.upkeep.Upkeep.{Upkeep}
 use Rattle.ferry_legs.specs.declared.way.Way.{Way}
 use Rattle.ferry_legs.specs.Departs.{way_of, serves, keeps_maint, keeps_maintenance}
 use Rattle.ferry_legs.proofs.ChangeLaws.{for_other, for_new}

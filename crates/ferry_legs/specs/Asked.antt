@@ -5,11 +5,11 @@ use Rattle.desk_data.specs.Situation.{Situation, legs_of, plane_at}
 use Rattle.desk_data.specs.PlanRows.{PlanRows}
 use Rattle.plan_reads.specs.Last.{IsLastOf}
 use Rattle.hour_counts.specs.declared.slot.Movement.TheVariants.{Departure, Arrival}
-use Rattle.added_legs.specs.Asked.{start_of}
+use Rattle.plan_checks.specs.Upkeep.{start_of}
 use Rattle.ferry_legs.specs.declared.ruled_out.Asked.{Asked}
 use Rattle.ferry_legs.specs.Departs.{IsWay}
 use Rattle.ferry_legs.specs.Taken.{IsTakenOf}
-use Rattle.added_legs.specs.Asked.{IsUpkeep}
+use Rattle.plan_checks.specs.Upkeep.{IsUpkeep}
 
 -- it is of a way, of what the plan says of its aircraft, and of all who depart and arrive, with the same added legs
 pub record IsAsked (I : Situation) (P : PlanRows) (asked : Asked) : Type 0 where

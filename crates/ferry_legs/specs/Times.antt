@@ -7,8 +7,8 @@ use Rattle.desk_rules.specs.Slots.{departures, arrivals}
 use Rattle.hour_counts.specs.Counts.{count_at}
 use Rattle.plan_reads.specs.Last.{AreLasts}
 use Rattle.added_legs.specs.declared.added.Added.{Added}
-use Rattle.added_legs.specs.declared.upkeep.Upkeep.{Upkeep}
-use Rattle.added_legs.specs.Asked.{start_of, AreUpkeeps}
+use Rattle.plan_checks.specs.declared.upkeep.Upkeep.{Upkeep}
+use Rattle.plan_checks.specs.Upkeep.{start_of, AreUpkeeps}
 
 -- ---- the times
 

@@ -11,12 +11,12 @@ ghost use Rattle.ferry_legs.specs.Asked.{IsAsked};
 ghost use Rattle.ferry_legs.specs.Departs.{IsWay, can_depart, has_slots, is_in_service, keeps_all, keeps_maint, keeps_maintenance, serves};
 ghost use Rattle.ferry_legs.specs.RuledOut.{HoldsOrIsRuledOut};
 ghost use Rattle.ferry_legs.specs.Taken.{IsTakenOf};
-ghost use Rattle.added_legs.specs.Asked.{start_of, AreUpkeeps, IsUpkeep};
+ghost use Rattle.plan_checks.specs.Upkeep.{start_of, AreUpkeeps, IsUpkeep};
 
 use crate::room::{Taken, has_room};
 use crate::way::Way;
-use added_legs::Upkeep;
 use desk_data::{Instance, Leg, Maint, Minute, Plan};
+use plan_checks::Upkeep;
 use plan_reads::{meets_span, stand_of};
 
 /// What is asked when an added leg on a way is to depart.

@@ -16,9 +16,10 @@ use crate::lasts::{lasts_of, ready, way_of};
 use crate::room::Taken;
 use crate::ruled_out::asked_of;
 use crate::table::Table;
-use added_legs::{Added, Starts, Upkeep, upkeeps_of};
+use added_legs::{Added, Starts};
 use desk_data::{Airport, DEPARTURES_END, Instance, Leg, Minute, NoMem, Plan, Plane};
 use hour_counts::Movement;
+use plan_checks::{Upkeep, upkeeps_of};
 use std::alloc::Global;
 use std::marker::Model;
 

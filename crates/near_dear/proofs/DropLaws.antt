@@ -27,7 +27,7 @@ use Rattle.desk_model.proofs.MoveLaws.{after_steps-valid}
 use Rattle.desk_model.proofs.RotationOrder.{rotation-each, rotation-flown}
 use Rattle.desk_model.proofs.TidyLaws.{after_tidy-rows}
 use Rattle.plan_checks.specs.Amounts.{reservation_cost}
-use Rattle.cost_laws.proofs.BalanceLaws.{cost_is}
+use Rattle.plan_checks.proofs.BalanceLaws.{cost_is}
 use Rattle.board_kit.specs.Users.{uses}
 use Rattle.near_moves.specs.Descent.{is_better}
 use Rattle.near_moves.specs.LegMoves.{cancelling, dropping}

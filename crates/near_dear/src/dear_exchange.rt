@@ -66,7 +66,7 @@ fn saves_at_most(now: u128, then: u128, paid: u128, others_paid: u128) -> bool
 }
 
 /// Whether aircraft are two, and neither of them surface transport.
-fn are_two(inst: &Instance, planes: (Plane, Plane)) -> bool
+pub fn are_two(inst: &Instance, planes: (Plane, Plane)) -> bool
     requires first { planes.0.0 < planes_of inst.now }
     requires second { planes.1.0 < planes_of inst.now }
     ensures other { result ≡ true → planes.0.0 ≢ planes.1.0 }

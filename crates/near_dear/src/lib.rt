@@ -72,7 +72,7 @@ mod restore_laws;
 mod times;
 
 pub use calm::calm_moments;
-pub use dear_exchange::is_dear_exchange;
+pub use dear_exchange::{are_two, is_dear_exchange};
 pub use dear_restore::is_dear_restore;
 pub use drop_laws::{a_dear_drop_is_out, those_on_a_cancelled_leg_are_not_carried_after_a_tidy};
 pub use drops::{dropped_by, is_dear_drop};

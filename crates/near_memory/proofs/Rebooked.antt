@@ -31,7 +31,7 @@ use Rattle.desk_model.specs.Steps.{after_step, after_move}
 use Rattle.desk_model.proofs.GroupPlans.{with_groups-same, with_groups-other}
 use Rattle.desk_model.proofs.RebookLaws.{groups_after_rebook-adds}
 use Rattle.plan_checks.specs.Amounts.{group_cost}
-use Rattle.cost_laws.proofs.BalanceLaws.{groups_balance}
+use Rattle.plan_checks.proofs.BalanceLaws.{groups_balance}
 use Rattle.step_laws.proofs.RowLaws.{aboard_groups}
 use Rattle.near_moves.specs.Descent.{is_better}
 use Rattle.near_moves.specs.Near.{unit_steps, unit_moves, move_of, step_in_time}

@@ -14,7 +14,7 @@ use Rattle.desk_rules.specs.Least.{least}
 use Rattle.desk_rules.specs.Cost.{cost, operating_cost, position_cost}
 use Rattle.desk_model.specs.Steps.{after_steps, after_move}
 use Rattle.plan_checks.specs.Amounts.{reservation_cost}
-use Rattle.cost_laws.proofs.BalanceLaws.{cost_is}
+use Rattle.plan_checks.proofs.BalanceLaws.{cost_is}
 use Rattle.step_laws.proofs.SumLaws.{sum_same}
 use Rattle.near_moves.specs.Descent.{is_better}
 use Rattle.near_moves.proofs.KeptLaws.{steps-append}

@@ -21,7 +21,7 @@ use Rattle.desk_rules.specs.Cost.{cost, operating_cost, position_cost}
 use Rattle.desk_model.specs.Refill.{has_leg}
 use Rattle.desk_model.specs.Steps.{after_steps, after_move}
 use Rattle.plan_checks.specs.Amounts.{reservation_cost}
-use Rattle.cost_laws.proofs.BalanceLaws.{cost_is}
+use Rattle.plan_checks.proofs.BalanceLaws.{cost_is}
 use Rattle.board_kit.specs.Users.{uses, is_booked_on}
 use Rattle.near_moves.specs.Descent.{is_better}
 use Rattle.near_moves.specs.RowRules.{keeps_rows}

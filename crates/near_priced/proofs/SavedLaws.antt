@@ -33,7 +33,7 @@ use Rattle.desk_model.proofs.TidyLaws.{after_tidy-at, after_tidy-valid}
 use Rattle.desk_model.proofs.RefillLaws.{after_refill-valid, after_refill-refills}
 use Rattle.plan_checks.specs.Amounts.{group_cost, reservation_cost}
 use Rattle.plan_checks.proofs.GroupLaws.{uncarried_is}
-use Rattle.cost_laws.proofs.BalanceLaws.{cost_is}
+use Rattle.plan_checks.proofs.BalanceLaws.{cost_is}
 use Rattle.board_kit.specs.Users.{uses, is_booked_on}
 use Rattle.near_moves.specs.Descent.{is_better}
 use Rattle.near_moves.proofs.RowLaws.{steps-rows}

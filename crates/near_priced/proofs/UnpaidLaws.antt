@@ -38,7 +38,7 @@ use Rattle.desk_model.proofs.MoveLaws.{after_steps-valid}
 use Rattle.step_laws.proofs.PushedLaws.{pushed-flies}
 use Rattle.plan_checks.specs.Amounts.{reservation_cost}
 use Rattle.step_laws.proofs.SumLaws.{sum_same, sum_change}
-use Rattle.cost_laws.proofs.BalanceLaws.{cost_is}
+use Rattle.plan_checks.proofs.BalanceLaws.{cost_is}
 use Rattle.near_moves.specs.MoveParts.{flier}
 use Rattle.near_moves.specs.Descent.{is_better}
 use Rattle.near_moves.proofs.FromLaws.{or_cases, or_left}

@@ -1,12 +1,12 @@
 //! Moves that are known not to be better by where legs lead.
 
-ghost use Rattle.std.specs.Prelude.{◌≡◌, ◌<◌, ◌≢◌, ◌∷◌, List as Items, false, true};
+ghost use Rattle.std.specs.Prelude.{◌≡◌, ◌<◌, ◌∷◌, List as Items, false, true};
 ghost use Rattle.std.specs.List.{list_all};
 ghost use Rattle.plan_moves.specs.declared.moves.Move.{Move};
 ghost use Rattle.plan_moves.specs.declared.moves.Step.{Step as AskedStep};
 ghost use Rattle.plan_moves.specs.declared.moves.Step.TheVariants.{Set};
 ghost use Rattle.plan_moves.specs.Fits.{Fits, StepFits};
-ghost use Rattle.desk_data.specs.Situation.{legs_of, plane_at, planes_of};
+ghost use Rattle.desk_data.specs.Situation.{legs_of, planes_of};
 ghost use Rattle.desk_data.specs.Valid.{IsRowOf};
 ghost use Rattle.desk_rules.specs.Maintenance.{flies};
 ghost use Rattle.near_legs.specs.Choices.{IsLegUnit, unit_of};
@@ -16,8 +16,9 @@ ghost use Rattle.near_search.specs.Out.{IsRuledOutByRows};
 ghost use Rattle.near_search.specs.Rotations.{AreRotations};
 
 use crate::rotations::{Rotations, run_leads_to, stand, stand_before};
-use desk_data::{Instance, Leg, Minute, Plane, Row};
+use desk_data::{Leg, Minute, Plane, Row};
 use desk_eval::Evaluator;
+use near_dear::are_two;
 use near_legs::LegUnit;
 use plan_moves::{Move, Step};
 use plan_reads::is_flown;
@@ -73,7 +74,7 @@ fn leads_elsewhere(
     requires other { other.0 < planes_of eval.now.inst }
     ensures { result ≡ true → IsHandedInVain eval.now.inst eval.now.rows leg.0 count other.0 }
 {
-    if !rotations.feasible || !are_two_aircraft(eval.instance(), own, other) {
+    if !rotations.feasible || !are_two(eval.instance(), (other, own)) {
         return false;
     }
     let from = eval.instance().leg(leg).origin;
@@ -150,7 +151,7 @@ fn is_swapped_in_vain(
     requires second { second.0 < planes_of eval.now.inst }
     ensures { result ≡ true → IsSwappedInVain eval.now.inst eval.now.rows first.0 second.0 at.0 }
 {
-    if !rotations.feasible || !are_two_aircraft(eval.instance(), first, second) {
+    if !rotations.feasible || !are_two(eval.instance(), (second, first)) {
         return false;
     }
     let one = stand_before(eval, rotations, first, at);
@@ -189,15 +190,4 @@ fn is_restored_in_vain(eval: &Evaluator, rotations: &Rotations, leg: Leg, plane:
     }
     let there = inst.leg(leg);
     there.dest.0 != there.origin.0 && there.origin.0 != stand(eval, rotations, plane).0
-}
-
-/// Whether two aircraft are not the same, and neither of them is surface transport.
-fn are_two_aircraft(inst: &Instance, first: Plane, second: Plane) -> bool
-    requires first { first.0 < planes_of inst.now }
-    requires second { second.0 < planes_of inst.now }
-    ensures two { result ≡ true → second.0 ≢ first.0 }
-    ensures air { result ≡ true → (plane_at inst.now first.0).surface ≡ false }
-    ensures other_air { result ≡ true → (plane_at inst.now second.0).surface ≡ false }
-{
-    second.0 != first.0 && !inst.plane(first).surface && !inst.plane(second).surface
 }

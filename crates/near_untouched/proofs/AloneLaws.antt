@@ -33,7 +33,7 @@ use Rattle.desk_model.proofs.TidyLaws.{after_tidy-at, after_tidy-valid, after_ti
 use Rattle.desk_model.proofs.RefillLaws.{after_refill-valid, after_refill-rows, after_refill-refills}
 use Rattle.plan_reads.proofs.TidyCalls.{tidy-keeps}
 use Rattle.plan_checks.specs.Amounts.{group_cost, reservation_cost}
-use Rattle.cost_laws.proofs.BalanceLaws.{cost_is}
+use Rattle.plan_checks.proofs.BalanceLaws.{cost_is}
 use Rattle.step_laws.proofs.SumLaws.{sum_same}
 use Rattle.near_moves.specs.Descent.{is_better}
 use Rattle.near_moves.proofs.KeptLaws.{steps-append}

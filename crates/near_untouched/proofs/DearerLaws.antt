@@ -33,7 +33,7 @@ use Rattle.desk_model.proofs.GroupPlans.{with_groups-same, with_groups-other}
 use Rattle.desk_model.proofs.TidyLaws.{after_tidy-at, after_tidy-valid}
 use Rattle.desk_model.proofs.RefillLaws.{after_refill-valid, has_leg-carried}
 use Rattle.plan_checks.specs.Amounts.{group_cost, reservation_cost}
-use Rattle.cost_laws.proofs.BalanceLaws.{cost_is}
+use Rattle.plan_checks.proofs.BalanceLaws.{cost_is}
 use Rattle.step_laws.proofs.SumLaws.{sum_lists}
 use Rattle.near_moves.proofs.ListLaws.{numbers_below}
 use Rattle.near_moves.proofs.KeptLaws.{steps-append}

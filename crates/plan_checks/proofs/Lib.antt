@@ -9,3 +9,4 @@ pub mod PassengerItemLaws
 pub mod GroupLaws
 pub mod EndLaws
 pub mod StandLaws
+pub mod BalanceLaws

@@ -6,3 +6,4 @@ pub mod Weighed
 pub mod Counted
 pub mod Amounts
 pub mod Stands
+pub mod Flown

@@ -98,3 +98,4 @@ pub use least_of_rotations::least_rot;
 pub use least_of_slots::least_slots;
 pub use operating::flight_cost;
 pub use passenger::passenger_cost;
+pub use upkeep::{Upkeep, upkeeps_of};

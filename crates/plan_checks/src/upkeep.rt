@@ -12,15 +12,15 @@ use std::alloc::Global;
 
 /// What some legs say of an aircraft's maintenance, and the last of all its legs before it.
 #[derive(Clone, Copy)]
-pub(crate) struct Upkeep {
+pub struct Upkeep {
     /// Whether none of the aircraft's legs departs from the start of the maintenance on.
-    pub(crate) stops: bool,
+    pub stops: bool,
     /// Whether none meets the maintenance.
-    pub(crate) free: bool,
+    pub free: bool,
     /// The last of all that depart before the start.
-    pub(crate) last: Option<Leg>,
+    pub last: Option<Leg>,
     /// The block minutes of those that depart before the start.
-    pub(crate) minutes: u32,
+    pub minutes: u32,
 }
 
 /// The start of each aircraft's maintenance; minute 0 where it has none.
@@ -38,8 +38,8 @@ impl Moments for Starts {
 }
 
 /// What the legs of a plan say of the maintenance of each aircraft: the last one before it, and then
-/// the rest, leg by leg.
-pub(crate) fn upkeeps_of(alloc: Global, inst: &Instance, plan: &Plan) -> Result<Vec<Upkeep>, NoMem>
+/// the rest, leg by leg. Of an aircraft without maintenance nothing is said. The only error is out of memory.
+pub fn upkeeps_of(alloc: Global, inst: &Instance, plan: &Plan) -> Result<Vec<Upkeep>, NoMem>
     requires { IsPlanFor inst.now plan.now }
     ensures { IfOk result (λ upkeeps. AreUpkeeps inst.now plan.now (legs_of inst.now) upkeeps.items) }
 {

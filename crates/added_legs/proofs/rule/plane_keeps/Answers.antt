@@ -2,7 +2,7 @@ use Rattle.std.proofs.Common.{◌≡◌, length, get_or, sym, ◌∙◌}
 use Rattle.std.specs.Prelude.{None}
 use Rattle.desk_data.specs.Situation.{legs_of, plane_at}
 use Rattle.plan_reads.proofs.LastLaws.{last_in}
-use Rattle.added_legs.specs.Asked.{no_upkeep, start_of}
+use Rattle.plan_checks.specs.Upkeep.{no_upkeep, start_of}
 use Rattle.added_legs.proofs.MaintLaws.{c8_is, c9_is, few_minutes}
 use Rattle.added_legs.proofs.rule.plane_keeps.Goals as goal
 

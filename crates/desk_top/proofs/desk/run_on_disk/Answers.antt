@@ -5,7 +5,7 @@ use Rattle.desk_folder.specs.declared.files.File.{File}
 use Rattle.desk_tasks.specs.Reading.{IsUnread}
 use Rattle.desk_tasks.specs.Runs.{world}
 use Rattle.desk_words.specs.Asked.{named}
-use Rattle.book_commands.specs.Journal.{OnlyOpens}
+use Rattle.story_commands.specs.Journal.{OnlyOpens}
 use Rattle.desk_top.specs.Store.{HoldsAll, StandsAlways}
 use Rattle.desk_top.proofs.StoreLaws.{shown-same}
 use Rattle.desk_top.proofs.StorePlaced.{kept-disked, kept-undisked, kept-unremembered, at_most, risen, unshown-placed, named-there, not-placed, never-began, eight-only, still, opens-placed, always-placed, all-placed, shown-placed, pending-placed, shown-failed, disk-named, holds-unnamed, unread-still}

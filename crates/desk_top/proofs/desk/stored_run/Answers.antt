@@ -2,7 +2,7 @@ use Rattle.std.proofs.Common.{◌≡◌, refl, inl, inr, arith}
 use Rattle.desk_tasks.specs.declared.ending.Ending.TheVariants as ending
 use Rattle.desk_tasks.specs.Runs.{world}
 use Rattle.desk_words.specs.Asked.{named}
-use Rattle.book_commands.specs.Journal.{OnlyOpens}
+use Rattle.story_commands.specs.Journal.{OnlyOpens}
 use Rattle.desk_top.specs.Store.{StandsAlways}
 use Rattle.desk_top.proofs.StoreLaws.{shown-same}
 use Rattle.desk_top.proofs.StorePlaced.{kept-placed, kept-unplaced, kept-unnamed, began-placed, tells-placed, not-placed, never-began, eight-only, still-placed, folder-named, holds-unnamed, weaker-unnamed, unread-placed, unread-still}

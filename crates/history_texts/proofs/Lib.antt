@@ -1,0 +1,3 @@
+pub mod BatchLaws
+pub mod SeenLaws
+pub mod HistoryTexts

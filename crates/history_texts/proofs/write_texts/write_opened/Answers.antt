@@ -1,0 +1,23 @@
+use Rattle.std.proofs.Common.{sym, subst}
+use Rattle.desk_tasks.specs.declared.ending.Ending.{Ending}
+use Rattle.desk_tasks.specs.Commands.{history_files}
+use Rattle.desk_tasks.specs.Runs.{world}
+use Rattle.desk_tasks.specs.Writing.{as_texts}
+use Rattle.desk_tasks.specs.Finishing.{Completes}
+use Rattle.history_texts.proofs.HistoryTexts.{opened, opened-differ, opened-all, opened-short}
+use Rattle.history_texts.proofs.write_texts.write_opened.Goals as goal
+
+pub put_outputs-requires : goal.put_outputs-requires
+put_outputs-requires g c = opened-differ c.args.book.now c.args.held (as_texts c.in-Ok.texts) c.in-Ok.ensures
+
+pub returns : goal.returns
+returns g c =
+    opened-short (world (g.F.Folder.outside c.args.folder.now) (g.O.Sink.report c.args.out.now)) (world (g.F.Folder.outside c.put_outputs.new.folder) (g.O.Sink.report c.put_outputs.new.out))
+    c.args.book.now c.args.held (as_texts c.in-Ok.texts) c.in-Err-put_outputs.end c.in-Ok.ensures c.in-Err-put_outputs.ensures
+
+pub returns-in-Ok-put_outputs : goal.returns-in-Ok-put_outputs
+returns-in-Ok-put_outputs g c =
+    let before = world (g.F.Folder.outside c.args.folder.now) (g.O.Sink.report c.args.out.now) in
+    let now = world (g.F.Folder.outside c.put_outputs.new.folder) (g.O.Sink.report c.put_outputs.new.out) in
+    subst (λ (how : Ending). Completes history_files before now (opened c.args.book.now c.args.held) how) (sym c.end_with.ensures)
+    (opened-all before now c.args.book.now c.args.held (as_texts c.in-Ok.texts) c.broken.result c.in-Ok-put_outputs.field-0 c.in-Ok.ensures c.broken.ensures c.in-Ok-put_outputs.ensures)

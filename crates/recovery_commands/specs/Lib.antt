@@ -1,0 +1,10 @@
+pub use Rattle.desk_core.specs.Recorded
+pub use Rattle.near_moves.specs.Descent
+pub use Rattle.near_moves.specs.Descents
+pub mod Ending
+pub mod Reached
+pub mod Steps
+pub mod Recovered
+pub mod Taking
+pub mod Running
+pub mod Closing

@@ -1,0 +1,15 @@
+pub mod RunLaws
+pub mod PlayLaws
+pub mod CrewLaws
+pub mod Entered
+pub mod Runs
+pub mod Comparing
+pub mod Adding
+pub mod Storing
+pub mod Opening
+pub mod Keeping
+pub mod Exact
+pub mod Spelled
+pub mod Owned
+pub mod Passed
+pub mod Continued

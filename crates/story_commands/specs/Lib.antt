@@ -1,0 +1,9 @@
+pub use Rattle.desk_core.specs.Recorded
+pub mod Crews
+pub mod Held
+pub mod Compared
+pub mod Added
+pub mod Left
+pub mod Journal
+pub mod Own
+pub mod Ends
