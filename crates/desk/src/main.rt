@@ -23,7 +23,7 @@ mod headway;
 use desk_data::NoMem;
 use desk_disk::HostDisk;
 use desk_folder::{File, FreeGate, HostFolder, HostSink, Sink, put_report};
-use desk_tasks::files_written;
+use desk_tasks::{files_read, files_written};
 use desk_top::desk_main_heard;
 use desk_words::{CopyingSink, command, explain, faulty_path};
 use headway::{HeadwayLines, lines_asked};
@@ -37,6 +37,10 @@ use std::{env, fs, io};
 
 // What reads as nothing and can't be written.
 const NULL_DEVICE: &str = "/dev/null";
+
+// What is said where another run has the journal on the disk.
+const HELD: &str =
+    "Another run has journal.bin in OUT: wait until that has ended, or take another OUT. This run has changed nothing.";
 
 // The words after the program's name; none where one of them is no text.
 fn words_of<R: Env + Alloc<A = Global>>(rt: &R) -> Result<Vec<String>, NoMem> {
@@ -59,7 +63,15 @@ fn words_of<R: Env + Alloc<A = Global>>(rt: &R) -> Result<Vec<String>, NoMem> {
     Ok(words)
 }
 
-// The files that the command of these words may write.
+// The files that the command of these words reads.
+fn inputs_of(words: &[String]) -> &'static [File] {
+    match command(words) {
+        Some(asked) => files_read(&asked.command),
+        None => &[],
+    }
+}
+
+// The files that it may write.
 fn outputs_of(words: &[String]) -> &'static [File] {
     match command(words) {
         Some(asked) => files_written(&asked.command),
@@ -67,16 +79,18 @@ fn outputs_of(words: &[String]) -> &'static [File] {
     }
 }
 
-// Empties what an earlier run left in these files, where this run has written none of them, so that
-// nobody takes it for this run's. A file that can't be emptied is named on standard error.
+// Has what was written beside an input take its place, unless memory ran out, and empties what an earlier run left in these
+// files, where this run has written none of them, so that nobody takes it for this run's. A file with which that can't be
+// done is named on standard error.
 fn settle<R: Files + Drop>(
     rt: &impl Eprint,
     alloc: Global,
     folder: &mut HostFolder<R>,
     outputs: &[File],
+    lasted: bool,
 ) {
     for file in outputs {
-        if !folder.settle(alloc, *file) {
+        if !folder.settle(alloc, *file, lasted) {
             let _ = rt.eprint("desk: warning: what an earlier run left can't be emptied: ");
             let _ = rt.eprintln(file.name());
         }
@@ -143,8 +157,9 @@ fn main(rt: HostRuntime) -> ExitCode {
     let Ok(words) = words_of(&rt) else {
         return ExitCode::from(out_of_memory(alloc, &mut out));
     };
+    let inputs = inputs_of(words.as_slice());
     let outputs = outputs_of(words.as_slice());
-    let mut folder = HostFolder::new(rt, alloc).with_outputs(outputs);
+    let mut folder = HostFolder::new(rt, alloc).with_files(inputs, outputs);
     let mut disk = HostDisk::new(rt, alloc);
     let status = desk_main_heard(
         &rt,
@@ -156,12 +171,16 @@ fn main(rt: HostRuntime) -> ExitCode {
         &mut disk,
         &mut HeadwayLines::new(rt, lines_asked(&rt)),
     );
-    // a run that was refused has read, and touches nothing
-    if !matches!(status, 2..=4) {
-        settle(&rt, alloc, &mut folder, outputs);
+    // a run that was refused has read, and touches nothing, nor does one whose journal another run has
+    let is_held = status == 8 && disk.is_held();
+    if !matches!(status, 2..=4) && !is_held {
+        settle(&rt, alloc, &mut folder, outputs, status != 6);
     }
     if let Some(report) = out.copy() {
         explain_end(&rt, alloc, words.as_slice(), status, report);
+    }
+    if is_held {
+        let _ = rt.eprintln(HELD);
     }
     ExitCode::from(status)
 }

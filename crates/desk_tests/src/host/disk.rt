@@ -2,6 +2,7 @@
 
 use desk_disk::{Disk, DiskFault, HostDisk, read_whole, write_through};
 use std::fs;
+use std::os::unix::fs::symlink;
 
 /// Writes a text at a place of the file in a directory, by a disk of its own.
 fn write_in(rt: HostRuntime, directory: &str, at: u64, text: &str) -> Result<(), DiskFault> {
@@ -65,4 +66,40 @@ fn the_hosts_disk_fails_where_its_file_is_a_directory(rt: HostRuntime) {
     assert!(rt; fs::create_dir_all(&rt, "no_disk/journal.bin").is_ok());
     assert!(rt; read_in(rt, "no_disk").is_err());
     assert!(rt; fs::remove_dir_all(&rt, "no_disk").is_ok());
+}
+
+#[test]
+fn the_hosts_disk_fails_where_another_has_its_file(rt: HostRuntime) {
+    let alloc = rt.alloc();
+    assert_eq!(rt; write_in(rt, "held_disk", 0, "abc"), Ok(()));
+    let mut second = HostDisk::new(rt, alloc);
+    assert_eq!(rt; second.place(alloc, "held_disk/."), Ok(()));
+    {
+        let mut first = HostDisk::new(rt, alloc);
+        assert_eq!(rt; first.place(alloc, "held_disk"), Ok(()));
+        assert_eq!(rt; first.length(alloc), Ok(3));
+        assert_eq!(rt; second.length(alloc), Err(DiskFault::Failed));
+        assert!(rt; second.is_held());
+    }
+    assert_eq!(rt; second.length(alloc), Ok(3));
+    assert!(rt; !second.is_held());
+    assert!(rt; fs::remove_dir_all(&rt, "held_disk").is_ok());
+}
+
+#[test]
+fn the_hosts_disk_brings_what_it_reads_to_a_new_file(rt: HostRuntime) {
+    assert!(rt; fs::create_dir_all(&rt, "new_file/in").is_ok());
+    assert!(rt; symlink(&rt, "in/kept", "new_file/journal.bin").is_ok());
+    assert_eq!(rt; write_in(rt, "new_file", 0, "abc"), Ok(()));
+    assert!(rt; fs::hard_link(&rt, "new_file/in/kept", "new_file/in/before").is_ok());
+    assert_eq!(rt; write_in(rt, "new_file", 1, "XY"), Ok(()));
+    assert!(rt;
+        matches!(fs::read_to_string(&rt, "new_file/in/before"), Ok(text) if text.as_str() == "abc")
+    );
+    assert!(rt;
+        matches!(fs::read_to_string(&rt, "new_file/in/kept"), Ok(text) if text.as_str() == "aXY")
+    );
+    assert!(rt; fs::metadata(&rt, "new_file/in/kept.new").is_err());
+    assert!(rt; reads(rt, "new_file", "aXY"));
+    assert!(rt; fs::remove_dir_all(&rt, "new_file").is_ok());
 }

@@ -4,6 +4,7 @@ use desk_folder::FolderFault::Failed;
 use desk_folder::{File, Folder, FolderFault, HostFolder, HostSink, MemFolder, MemSink, Sink};
 use std::alloc::Global;
 use std::fs;
+use std::os::unix::fs::symlink;
 use std::test::Fail;
 
 /// A call of a folder, and what it is to give.
@@ -108,8 +109,10 @@ enum Step {
     Make(&'static str),
     /// A file has an old text.
     Old(&'static str),
-    /// A new folder, whose input and output are these directories and whose outputs are three files, is called so, and then
-    /// these files are settled, with these answers.
+    /// A name is made that leads to another one.
+    Link(&'static str, &'static str),
+    /// A new folder, whose input and output are these directories, of which the journal is read and three files are outputs, is
+    /// called so, and then these files are settled, with these answers.
     Call(&'static str, &'static str, &'static [Call], &'static [(File, bool)]),
     /// A file has this text, or there is none.
     Has(&'static str, Option<&'static str>),
@@ -129,7 +132,7 @@ fn is_called(
 ) -> bool {
     let alloc = rt.alloc();
     let outputs = [File::SolRotations, File::SolItineraries, File::Journal];
-    let mut folder = HostFolder::new(rt, alloc).with_outputs(&outputs);
+    let mut folder = HostFolder::new(rt, alloc).with_files(&[File::Journal], &outputs);
     if folder.place(alloc, input, output).is_err() {
         return false;
     }
@@ -138,7 +141,7 @@ fn is_called(
     }
     for at in 0..settles.len() {
         let (file, is_settled) = settles[at];
-        if folder.settle(alloc, file) != is_settled {
+        if folder.settle(alloc, file, true) != is_settled {
             return false;
         }
     }
@@ -158,6 +161,7 @@ fn is_done(rt: HostRuntime, step: Step) -> bool {
     match step {
         Step::Make(directory) => fs::create_dir_all(&rt, directory).is_ok(),
         Step::Old(path) => fs::write(&rt, path, "old\n").is_ok(),
+        Step::Link(path, to) => symlink(&rt, to, path).is_ok(),
         Step::Call(input, output, calls, settles) => is_called(rt, input, output, calls, settles),
         Step::Has(path, want) => has_text(&rt, path, want),
         Step::Lacks(directory) => fs::metadata(&rt, directory).is_err(),
@@ -207,7 +211,7 @@ const WRITTEN: [Step; 5] = [
             Call::Next(File::Journal, Ok("b\nc\n")),
             Call::Put(File::Journal, "d\n", Ok(2)),
         ],
-        &[],
+        &[(File::Journal, true)],
     ),
     Step::Call(
         "folder_of_a_test/out",
@@ -337,4 +341,45 @@ const READ_BEFORE: [Step; 8] = [
 #[test]
 fn an_output_that_was_read_is_not_emptied(rt: HostRuntime) {
     assert_eq!(rt; first_undone(rt, &READ_BEFORE), None);
+}
+
+/// The same by other words for one directory, before it was read and after; and a file that leads to the input.
+const READ_BY_ANOTHER_NAME: [Step; 14] = [
+    Step::Make("by_another_name/out"),
+    Step::Old("by_another_name/journal.csv"),
+    Step::Link("by_another_name/here", "."),
+    Step::Call(
+        "by_another_name",
+        "by_another_name/out/../",
+        &[Call::Put(File::SolItineraries, "b\n", Ok(2))],
+        &[(File::Journal, true)],
+    ),
+    Step::Has("by_another_name/journal.csv", Some("old\n")),
+    Step::Call(
+        "by_another_name",
+        "by_another_name/here",
+        &[
+            Call::Next(File::Journal, Ok("old\n")),
+            Call::Put(File::Journal, "c\n", Ok(2)),
+        ],
+        &[],
+    ),
+    Step::Has("by_another_name/journal.csv", Some("old\n")),
+    Step::Has("by_another_name/journal.csv.new", Some("c\n")),
+    Step::Link("by_another_name/out/sol_rotations.csv", "../journal.csv"),
+    Step::Call(
+        "by_another_name",
+        "by_another_name/out",
+        &[Call::Put(File::SolRotations, "d\n", Ok(2))],
+        &[(File::SolRotations, true), (File::Journal, true)],
+    ),
+    Step::Has("by_another_name/journal.csv", Some("old\n")),
+    Step::Has("by_another_name/out/sol_rotations.csv", Some("d\n")),
+    Step::Has("by_another_name/out/sol_rotations.csv.new", None),
+    Step::Remove("by_another_name"),
+];
+
+#[test]
+fn an_output_that_is_an_input_by_another_name_is_not_emptied(rt: HostRuntime) {
+    assert_eq!(rt; first_undone(rt, &READ_BY_ANOTHER_NAME), None);
 }
