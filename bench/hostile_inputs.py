@@ -5,6 +5,7 @@ What a run has to give is what the package bench/judge says of the same files; o
 import collections
 import random
 import re
+import resource
 import signal
 import subprocess
 import tempfile
@@ -12,7 +13,7 @@ import time
 
 from hostile_room import OLD, SAMPLE, WRITTEN, Given, Room, files_of, left_in, printed, row_of, run
 from judge import expected
-from judge.files import DAY_FILES, SOLUTION_FILES
+from judge.files import DAY_FILES, MOST_JOURNAL_BYTES, SOLUTION_FILES
 
 REPLAY, CHECK = ("replay", "in", "out"), ("check", "in", "out")
 # of noise the judge reads so many bytes, which have several rows and whole lines of each kind
@@ -123,8 +124,21 @@ MANY = (
 )
 
 
+def most_rows(asked):
+    """A row of the longest journal.csv there may be, of the shortest moves, in 2 GB of memory."""
+    line, most = b"0,move,tidy\n", 2 << 30
+    with tempfile.TemporaryDirectory() as path:
+        room = Room(path)
+        count = MOST_JOURNAL_BYTES // len(line)
+        room.put("in", "journal.csv", line * count)
+        given = run(asked.program, REPLAY, path, limits=[(resource.RLIMIT_AS, most)])
+    return "| %d rows `%s` in journal.csv, 256 MB, in 2,048 MB of memory | replay | %s | %s | %.1f s and %d MB of memory |" % (
+        count, line.decode().strip(), given.status, printed(given.said), given.seconds, given.megabytes), given.status in (0, 3)
+
+
 def rows(asked):
     """A row for each file that is full of rows which are right by themselves."""
+    yield most_rows(asked)
     for name, line in MANY:
         with tempfile.TemporaryDirectory() as path:
             room = Room(path)

@@ -1,5 +1,5 @@
 -- Texts that are put one after another.
-use Rattle.std.proofs.Common.{◌≡◌, ◌≢◌, ◌⊎◌, ℕ, ◌≤◌, true, false, List, [], ◌∷◌, length, refl, sym, subst, ◌∙◌, arith, inl, inr}
+use Rattle.std.proofs.Common.{◌≡◌, ◌⊎◌, ℕ, ◌≤◌, true, List, [], ◌∷◌, length, refl, sym, subst, ◌∙◌, arith, inl, inr}
 use Rattle.std.specs.Prelude.{Option, Some, None, Result, Ok, Err, IfErr}
 use Rattle.std.specs.Io.KnownBytes.{Appends, Keeps}
 use Rattle.std.proofs.lemmas.List.{append-nil, take_all}
@@ -11,7 +11,7 @@ use Rattle.desk_folder.specs.Calls.{AppendsPrefix, Rose}
 use Rattle.desk_folder.specs.declared.outputs.WriteFault.{WriteFault}
 use Rattle.desk_folder.specs.declared.outputs.WriteFault.TheVariants as fault
 use Rattle.desk_folder.specs.Texts.{PutsText}
-use Rattle.desk_folder.specs.Outputs.{is_among, FileText, files_of, are_different, HasNothing, HasBeginning, HasAll, HaveNothing, ArePut, ArePutBy, HasWriteCause, IsUnput, WritesAmong, PutsTexts}
+use Rattle.desk_folder.specs.Outputs.{is_among, FileText, files_of, are_different, HasAll, HaveNothing, ArePut, ArePutBy, HasWriteCause, WritesAmong, PutsTexts}
 use Rattle.desk_folder.proofs.Among.{same_or_other, among_first, among_rest, not_first, not_rest, different_first, other_than_first}
 
 -- ---- known bytes
@@ -118,6 +118,7 @@ writes_first file files before mid only kept = record {
   kept = λ f. kept_first file f before mid only kept;
   directories = only.directories;
   left = only.left;
+  turns = only.turns;
   place_faults = only.place_faults;
   next_faults = only.next_faults;
 }
@@ -131,6 +132,7 @@ writes_rest file files before mid now only kept rest = record {
   kept = λ f. let first : before.put_faults f ≤ mid.put_faults f = kept_first file f before mid only kept in let after : mid.put_faults f ≤ now.put_faults f = rest.kept f in omega (arith, first, after);
   directories = rest.directories ∙ only.directories;
   left = λ f. rest.left f ∙ only.left f;
+  turns = λ f. rest.turns f ∙ only.turns f;
   place_faults = rest.place_faults ∙ only.place_faults;
   next_faults = λ f. rest.next_faults f ∙ only.next_faults f;
 }
@@ -199,6 +201,7 @@ puts-none outside ok = record {
     kept = λ f. omega arith;
     directories = refl;
     left = λ f. refl;
+    turns = λ f. refl;
     place_faults = refl;
     next_faults = λ f. refl;
   };

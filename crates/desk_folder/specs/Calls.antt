@@ -11,6 +11,10 @@ use Rattle.desk_folder.specs.Outside.{Outside, SinkSide, Directories, ReadsOnly,
 abbrev pub Rose : ℕ → ℕ → Type 0
 Rose before now = min (before + 1) (2 ^ 64 - 1) ≤ now
 
+-- a count of turns over one: it is higher by one, or stands at the last value of a counter of 64 bits
+abbrev pub TakesTurn : ℕ → ℕ → Type 0
+TakesTurn before now = now ≡ min (before + 1) (2 ^ 64 - 1)
+
 -- a count of faults over a call or several: it never falls, and rose where the answer is Failed
 pub record Counts {T : Type 0} (before now : ℕ) (answer : Result T FolderFault) : Type 0 where
   pub kept : before ≤ now
@@ -38,10 +42,11 @@ pub record Places (before now : Outside) (input output : List ℕ) (answer : Res
   pub faults : Counts before.place_faults now.place_faults answer
   pub others : PlacesOnly before now
 
--- `next` takes the first bytes left of the file, none only at its end, and nothing at an error
+-- `next` takes the first bytes left of the file, none only at its end, and nothing at an error; whatever it answers, it is a turn
 pub record Takes (before now : Outside) (file : File) (buffer : List ℕ) (answer : Result ℕ FolderFault) : Type 0 where
   pub fits : ReadsAtMost answer buffer
   pub bytes : ReadConsumes (before.left file) (now.left file) answer buffer
+  pub turn : TakesTurn (before.turns file) (now.turns file)
   pub faults : Counts (before.next_faults file) (now.next_faults file) answer
   pub others : ReadsOnly file before now
 

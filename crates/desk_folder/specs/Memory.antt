@@ -17,12 +17,13 @@ pub record CallPlan : Type 0 where
   pub most_bytes : ℕ
 
 -- a folder in memory: the directories last named, its input files, and of each file, by its number, how many bytes
--- are taken, what is written, and how many reads and writes failed, and how many namings did
+-- are taken, what is written, how many reads there were, and how many reads and writes failed, and how many namings did
 pub record MemoryFolder : Type 0 where
   pub directories : Directories
   pub inputs : List (File × List ℕ)
   pub taken : List ℕ
   pub written : List (List ℕ)
+  pub turns : List ℕ
   pub place_faults : ℕ
   pub next_faults : List ℕ
   pub put_faults : List ℕ
@@ -34,6 +35,7 @@ memory_outside m = record {
   directories = Some m.directories;
   left = λ file. Some (drop (slice_index m.taken (file_number file)) (entry_of file m.inputs));
   written = λ file. Some (text_at m.written (file_number file));
+  turns = λ file. slice_index m.turns (file_number file);
   place_faults = m.place_faults;
   next_faults = λ file. slice_index m.next_faults (file_number file);
   put_faults = λ file. slice_index m.put_faults (file_number file);
@@ -57,11 +59,12 @@ put_fails p = list_any (λ n. n == put_call p) p.fail_put
 abbrev pub bytes_given : MemoryFolder → File → ℕ → ℕ
 bytes_given m file room = min m.calls.most_bytes (min room (length (drop (slice_index m.taken (file_number file)) (entry_of file m.inputs))))
 
--- nothing is read, nothing is written, no directory is named and no call has failed
+-- nothing is read, nothing is written, no directory is named, no file was read from and no call has failed
 pub record IsNew (inputs : List (File × List ℕ)) (now : Outside) : Type 0 where
   pub directories : now.directories ≡ Some (record { input = []; output = [] })
   pub left : (file : File) → now.left file ≡ Some (entry_of file inputs)
   pub written : (file : File) → now.written file ≡ Some []
+  pub turns : (file : File) → now.turns file ≡ 0
   pub place_faults : now.place_faults ≡ 0
   pub next_faults : (file : File) → now.next_faults file ≡ 0
   pub put_faults : (file : File) → now.put_faults file ≡ 0

@@ -72,6 +72,7 @@ pub record WritesAmong (files : List File) (before now : Outside) : Type 0 where
   pub kept : (f : File) → before.put_faults f ≤ now.put_faults f
   pub directories : now.directories ≡ before.directories
   pub left : (f : File) → now.left f ≡ before.left f
+  pub turns : (f : File) → now.turns f ≡ before.turns f
   pub place_faults : now.place_faults ≡ before.place_faults
   pub next_faults : (f : File) → now.next_faults f ≡ before.next_faults f
 

@@ -1,5 +1,5 @@
 -- What reading a file to its end, and putting a whole text, do to what stands outside.
-use Rattle.std.specs.Prelude.{◌≡◌, ℕ, ◌<◌, ◌≤◌, List, [], length, ⊤, Option, Some, None, Result, Ok, Err, IfOk, IfSome, IsErrOf}
+use Rattle.std.specs.Prelude.{◌≡◌, ℕ, ◌+◌, ◌<◌, ◌≤◌, List, [], length, ⊤, Option, Some, None, Result, Ok, Err, IfOk, IfSome, IsErrOf}
 use Rattle.std.specs.declared.alloc.Global.{Global}
 use Rattle.std.specs.declared.vec.Vec.{Vec}
 use Rattle.std.specs.Io.KnownBytes.{Appends, Consumes}
@@ -20,13 +20,15 @@ abbrev pub ConsumesSome : Option (List ℕ) → Option (List ℕ) → Type 0
 ConsumesSome before now = (taken : List ℕ) × Consumes before now taken
 
 -- a file is read to its end: Ok gives all its bytes, no more than the limit; Size says that there are more, where
--- shown; Failed says that a read of this file failed; and nothing else changes
+-- shown; Failed says that a read of this file failed; and nothing else changes. Each turn but the last gives a byte of those
+-- within the limit, so there is at most one turn more than the limit has bytes
 pub record ReadsFile (before now : Outside) (file : File) (limit : ℕ) (answer : Result (Vec ℕ Global) ReadEnd) : Type 0 where
   pub whole : IfOk answer (λ v. IsWhole (before.left file) (now.left file) v.items)
   pub fits : IfOk answer (λ v. length v.items ≤ limit)
   pub size : IsErrOf answer Size → IfSome (before.left file) (λ bytes. limit < length bytes)
   pub failed : IsErrOf answer Failed → Rose (before.next_faults file) (now.next_faults file)
   pub kept : before.next_faults file ≤ now.next_faults file
+  pub turns : now.turns file ≤ before.turns file + (limit + 1)
   pub left : ConsumesSome (before.left file) (now.left file)
   pub others : ReadsOnly file before now
 

@@ -56,7 +56,7 @@ pub(crate) fn append(texts: &mut [Vec<u8>], at: usize, piece: &[u8]) -> Result<(
     text.extend_from_slice(piece)
 }
 
-/// Raises a file's count of faults by one; at its last value it stands still.
+/// Raises a file's count, of turns or of faults, by one; at its last value it stands still.
 #[tactic(auto, using(crate::proofs::FileLemmas::numbers_differ))]
 pub(crate) fn raise(counts: &mut [u64], file: File)
     requires { length counts.old ≡ FILES }

@@ -5,8 +5,9 @@ ghost use Rattle.std.specs.Io.{ReadsAtMost};
 use crate::{File, FolderFault};
 use std::alloc::{AllocError, Global};
 use std::fs;
-use std::fs::OpenOptions;
+use std::fs::{Metadata, OpenFile, OpenOptions};
 use std::io::{ErrorKind, Read, Write};
+use std::os::unix::fs::MetadataExt;
 use std::rt::Files;
 
 // The path of a file in a directory.
@@ -17,6 +18,52 @@ fn path_of(alloc: Global, directory: &str, file: File) -> Result<String, AllocEr
     }
     path.push_str(file.name())?;
     Ok(path)
+}
+
+// The path of the new file beside it.
+fn beside_of(alloc: Global, directory: &str, file: File) -> Result<String, AllocError> {
+    let mut path = path_of(alloc, directory, file)?;
+    path.push_str(".new")?;
+    Ok(path)
+}
+
+/// A file as the host tells it from all others, whatever its names are: by its device, and its number there.
+#[derive(Clone, Copy, PartialEq, Eq)]
+pub(crate) struct FileId {
+    device: u64,
+    number: u64,
+}
+
+// The file of which the host says this.
+fn id_in(found: &Metadata) -> FileId {
+    FileId {
+        device: found.dev(),
+        number: found.ino(),
+    }
+}
+
+/// The file that a name in a directory leads to, links followed; none where the host knows of none.
+pub(crate) fn id_of<R: Files>(
+    rt: &R,
+    alloc: Global,
+    directory: &str,
+    file: File,
+) -> Option<FileId> {
+    let Ok(path) = path_of(alloc, directory, file) else {
+        return None;
+    };
+    match fs::metadata(rt, path.as_str()) {
+        Ok(found) => Some(id_in(&found)),
+        Err(_) => None,
+    }
+}
+
+/// A file that is open.
+pub(crate) fn id_of_opened<F: OpenFile>(opened: &F) -> Option<FileId> {
+    match opened.metadata() {
+        Ok(found) => Some(id_in(&found)),
+        Err(_) => None,
+    }
 }
 
 /// Reads some bytes of a file in a directory, and opens it before where it isn't open yet.
@@ -76,20 +123,65 @@ fn create<R: Files>(
     fs::create(rt, path.as_str()).map_err(|_| FolderFault::Failed)
 }
 
-/// Writes at least one byte of a piece at the end of a file in a directory, and creates the file before
-/// where this is the first write.
+// Creates a new file beside one of a directory; what a run that was stopped left there goes, and if that is a link, the
+// link alone.
+fn create_beside<R: Files>(
+    rt: &R,
+    alloc: Global,
+    directory: &str,
+    file: File,
+) -> Result<R::File, FolderFault> {
+    let path = beside_of(alloc, directory, file)?;
+    let _ = fs::remove_file(rt, path.as_str());
+    let mut options = OpenOptions::new();
+    options.write(true).create_new(true);
+    options
+        .open(rt, path.as_str())
+        .map_err(|_| FolderFault::Failed)
+}
+
+/// Has the new file beside one of a directory take its place where it is whole, and takes it away where it isn't. It
+/// answers whether that was done.
+pub(crate) fn end_beside<R: Files>(
+    rt: &R,
+    alloc: Global,
+    directory: &str,
+    file: File,
+    is_whole: bool,
+) -> bool {
+    let (Ok(path), Ok(beside)) = (
+        path_of(alloc, directory, file),
+        beside_of(alloc, directory, file),
+    ) else {
+        return false;
+    };
+    if is_whole {
+        fs::rename(rt, beside.as_str(), path.as_str()).is_ok()
+    } else {
+        fs::remove_file(rt, beside.as_str()).is_ok()
+    }
+}
+
+/// Writes at least one byte of a piece at the end of a file in a directory, or of the new file beside it, and creates
+/// that before where this is the first write.
 pub(crate) fn write_some<R: Files>(
     rt: &R,
     alloc: Global,
     target: &mut Option<R::File>,
     directory: &str,
     file: File,
+    is_beside: bool,
     piece: &[u8],
 ) -> Result<usize, FolderFault>
     ensures { IfOk result (λ n. (0 < n) × (n ≤ length piece.now)) }
 {
     if target.is_none() {
-        *target = Some(create(rt, alloc, directory, file)?);
+        let created = if is_beside {
+            create_beside(rt, alloc, directory, file)?
+        } else {
+            create(rt, alloc, directory, file)?
+        };
+        *target = Some(created);
     }
     let Some(created) = target else {
         return Err(FolderFault::Failed);

@@ -7,11 +7,11 @@
 //!
 //! `Folder` names two directories (`place`), reads the next bytes of a file (`next`) and writes to one
 //! (`put`); `Sink` takes the report. `File` has the 18 files in their order. A contract sees a folder as
-//! what it shows: the directories, the bytes left and written of each file, and how often each kind of
-//! call has failed. An answer `Failed` comes only where that count rose in the call.
+//! what it shows: the directories, the bytes left and written of each file, how often each file was asked for
+//! its next bytes, and how often each kind of call has failed. An answer `Failed` comes only where that count rose in the call.
 //!
 //!     let mut folder = MemFolder::new(inputs, fail_next, fail_put);   // shows all its bytes
-//!     let mut folder = HostFolder::with_outputs(..);                  // the host's, shows none
+//!     let mut folder = HostFolder::new(rt, alloc).with_files(..);      // the host's, shows none
 //!
 //! `MemFolder` and `MemSink` stand in for the outside in tests, and fail the calls that they are asked to fail.
 //! `HostFolder` and `HostSink` are the trusted edge: their contracts speak of the directories and count

@@ -12,6 +12,7 @@ pub struct MemFolder {
     inputs: Vec<(File, Vec<u8>)>,
     taken: [usize; FILES],
     outputs: [Vec<u8>; FILES],
+    turns: [u64; FILES],
     input: String,
     output: String,
     place_fails: bool,
@@ -32,6 +33,7 @@ impl Drop for MemFolder {
             inputs: _,
             taken: _,
             outputs: _,
+            turns: _,
             input: _,
             output: _,
             place_fails: _,
@@ -60,6 +62,7 @@ impl Model for MemFolder {
       inputs = named_texts m.inputs.items;
       taken = m.taken;
       written = texts_of m.outputs;
+      turns = m.turns;
       place_faults = m.place_faults;
       next_faults = m.next_faults;
       put_faults = m.put_faults;
@@ -105,6 +108,7 @@ impl MemFolder {
                 Vec::new(alloc),
                 Vec::new(alloc),
             ],
+            turns: [0; FILES],
             input: String::new(alloc),
             output: String::new(alloc),
             place_fails: false,
@@ -180,6 +184,7 @@ impl Folder for MemFolder {
         ensures counted { CountsFailure ((memory_outside self.old).next_faults file) ((memory_outside self.new).next_faults file) result }
     {
         self.next_calls = self.next_calls.saturating_add(1);
+        raise(&mut self.turns, file);
         if self.fail_next.contains(&self.next_calls) {
             raise(&mut self.next_faults, file);
             return Err(FolderFault::Failed);

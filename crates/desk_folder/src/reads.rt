@@ -48,7 +48,8 @@ fn buffer(alloc: Global, size: usize) -> Result<Vec<u8>, AllocError>
 }
 
 /// Reads what is left of a file, if that is at most `limit` bytes. It gives up with `Size` as soon as
-/// more have come, with `Failed` only where the folder's count of failed reads of this file rose.
+/// more have come, with `Failed` only where the folder's count of failed reads of this file rose. It asks
+/// for the next bytes no more than `limit + 1` times, since each answer but the last gives a byte.
 pub fn read_file<F: Folder>(
     alloc: Global,
     folder: &mut F,

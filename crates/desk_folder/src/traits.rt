@@ -18,7 +18,7 @@ pub trait Folder {
         ensures { Places (outside self.old) (outside self.new) input.now output.now result };
 
     /// Takes the next bytes of a file into the front of `into`, and answers how many: 0 only at the
-    /// file's end. After an error it has taken nothing.
+    /// file's end. After an error it has taken nothing. Whatever it answers, the file's count of turns rises by one.
     fn next(&mut self, alloc: Global, file: File, into: &mut [u8]) -> Result<usize, FolderFault>
         requires { 0 < length into.old }
         ensures { Takes (outside self.old) (outside self.new) file into.new result };

@@ -1,5 +1,5 @@
 -- A file is read, and then those after it.
-use Rattle.std.proofs.Common.{◌≡◌, ◌≢◌, ℕ, ◌<◌, ◌≤◌, true, false, List, [], ◌∷◌, refl, sym, ap, subst, ◌∙◌, arith, inl, inr}
+use Rattle.std.proofs.Common.{◌≡◌, ◌≢◌, ℕ, ◌+◌, ◌<◌, ◌≤◌, true, false, List, [], ◌∷◌, refl, sym, ap, subst, ◌∙◌, arith, inl, inr}
 use Rattle.std.specs.Prelude.{Option, Some, IfSome, Result, Ok, Err}
 use Rattle.std.proofs.lemmas.Bool.{cases_Bool}
 use Rattle.desk_folder.specs.declared.files.File.{File}
@@ -14,7 +14,7 @@ use Rattle.desk_folder.proofs.Among.{same_or_other, among_rest, among_first, not
 use Rattle.desk_tasks.specs.Inputs.{Inputs, Tells}
 use Rattle.desk_tasks.specs.Story.{Rows, read_as, read_all}
 use Rattle.desk_tasks.specs.declared.refusal.Refusal.{Refusal}
-use Rattle.desk_tasks.specs.Reading.{IsRead, IsUnread, ReadsAmong, StopsAt}
+use Rattle.desk_tasks.specs.Reading.{IsRead, IsUnread, HasFewTurns, ReadsAmong, StopsAt}
 use Rattle.desk_tasks.specs.StoryReading.{are_in_order, StopsAtFault, GivesRead, HasReadCause}
 use Rattle.desk_tasks.specs.Facts.{as_rows}
 use Rattle.desk_tasks.proofs.Orders.{numbered_after, refused_among, stands-first}
@@ -76,23 +76,45 @@ kept_through g f files before mid now only kept rest = elim (same_or_other f g) 
   | inr other ↦ let first : mid.next_faults f ≡ before.next_faults f = only.next_faults f other in omega (arith, first, rest)
 ]
 
-pub reads-first : (g : File) (files : List File) (before mid : Outside) → ReadsOnly g before mid → before.next_faults g ≤ mid.next_faults g → ReadsAmong (g ∷ files) before mid
-reads-first g files before mid only kept = record {
-  unread = λ f not_there. record { left = only.left f (not_first f g files not_there); faults = only.next_faults f (not_first f g files not_there) };
+-- the turns of the first file, and of those after it
+few_first : (g f : File) (before mid : Outside) → ReadsOnly g before mid → HasFewTurns before mid g → HasFewTurns before mid f
+few_first g f before mid only few = elim (same_or_other f g) [
+  | inl same ↦ subst (λ (h : File). HasFewTurns before mid h) (sym same) few
+  | inr other ↦ let stays : mid.turns f ≡ before.turns f = only.turns f other in omega (arith, stays)
+]
+
+few_rest : (g f : File) (files : List File) (before mid now : Outside) → are_in_order (g ∷ files) ≡ true → ReadsOnly g before mid → HasFewTurns before mid g → ReadsAmong files mid now → HasFewTurns before now f
+few_rest g f files before mid now order only few rest = elim (same_or_other f g) [
+  | inl same ↦
+      let stays : now.turns g ≡ mid.turns g = (rest.unread g (first_not_rest g files order)).turns in
+      let still : HasFewTurns before now g = omega (arith, few, stays) in
+      subst (λ (h : File). HasFewTurns before now h) (sym same) still
+  | inr other ↦
+      let stays : mid.turns f ≡ before.turns f = only.turns f other in
+      let after : HasFewTurns mid now f = rest.few f in
+      omega (arith, stays, after)
+]
+
+pub reads-first : (g : File) (files : List File) (before mid : Outside) → ReadsOnly g before mid → before.next_faults g ≤ mid.next_faults g → HasFewTurns before mid g → ReadsAmong (g ∷ files) before mid
+reads-first g files before mid only kept few = record {
+  unread = λ f not_there. record { left = only.left f (not_first f g files not_there); turns = only.turns f (not_first f g files not_there); faults = only.next_faults f (not_first f g files not_there) };
   kept = λ f. kept_through g f files before mid mid only kept (omega arith);
+  few = λ f. few_first g f before mid only few;
   directories = only.directories;
   written = only.written;
   place_faults = only.place_faults;
   put_faults = only.put_faults;
 }
 
-pub reads-rest : (g : File) (files : List File) (before mid now : Outside) → ReadsOnly g before mid → before.next_faults g ≤ mid.next_faults g → ReadsAmong files mid now → ReadsAmong (g ∷ files) before now
-reads-rest g files before mid now only kept rest = record {
+pub reads-rest : (g : File) (files : List File) (before mid now : Outside) → are_in_order (g ∷ files) ≡ true → ReadsOnly g before mid → before.next_faults g ≤ mid.next_faults g → HasFewTurns before mid g → ReadsAmong files mid now → ReadsAmong (g ∷ files) before now
+reads-rest g files before mid now order only kept few rest = record {
   unread = λ f not_there. record {
     left = (rest.unread f (not_rest f g files not_there)).left ∙ only.left f (not_first f g files not_there);
+    turns = (rest.unread f (not_rest f g files not_there)).turns ∙ only.turns f (not_first f g files not_there);
     faults = (rest.unread f (not_rest f g files not_there)).faults ∙ only.next_faults f (not_first f g files not_there);
   };
   kept = λ f. kept_through g f files before mid now only kept (rest.kept f);
+  few = λ f. few_rest g f files before mid now order only few rest;
   directories = rest.directories ∙ only.directories;
   written = λ f. rest.written f ∙ only.written f;
   place_faults = rest.place_faults ∙ only.place_faults;
@@ -112,10 +134,10 @@ cause-rest g files before mid now fault.Memory only kept h = tt
 unread_first : (f g : File) (before mid : Outside) → ReadsOnly f before mid → file_number f < file_number g → IsUnread before mid g
 unread_first f g before mid only lt =
     let other : g ≢ f = λ same. let e : file_number g ≡ file_number f = ap file_number same in omega (arith, lt, e) in
-    record { left = only.left g other; faults = only.next_faults g other }
+    record { left = only.left g other; turns = only.turns g other; faults = only.next_faults g other }
 
 unread_both : (g : File) (before mid now : Outside) → IsUnread before mid g → IsUnread mid now g → IsUnread before now g
-unread_both g before mid now first rest = record { left = rest.left ∙ first.left; faults = rest.faults ∙ first.faults }
+unread_both g before mid now first rest = record { left = rest.left ∙ first.left; turns = rest.turns ∙ first.turns; faults = rest.faults ∙ first.faults }
 
 not_before : (f r : File) (files : List File) → are_in_order (f ∷ files) ≡ true → is_among r (f ∷ files) ≡ true → file_number f ≤ file_number r
 not_before f r files order among = elim (among_either r f files among) [

@@ -81,6 +81,7 @@ completes-nothing files before o = record {
     kept = λ f. omega arith;
     directories = refl;
     left = λ f. refl;
+    turns = λ f. refl;
     place_faults = refl;
     next_faults = λ f. refl;
   };

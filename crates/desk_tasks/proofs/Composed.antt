@@ -1,5 +1,5 @@
 -- Reading, doing what was read and writing what came of it, one after another, and naming the directories before.
-use Rattle.std.proofs.Common.{◌≡◌, ◌≢◌, ℕ, true, List, [], refl, subst, ◌∙◌, inl, inr, arith}
+use Rattle.std.proofs.Common.{◌≡◌, ◌≢◌, ℕ, ◌+◌, ◌≤◌, true, List, [], refl, subst, ◌∙◌, inl, inr, arith}
 use Rattle.std.specs.Prelude.{Option, Some, None, IfSome, Result, Ok, Err}
 use Rattle.std.specs.Io.KnownBytes.{Appends, Keeps}
 use Rattle.desk_folder.specs.declared.files.File.{File}
@@ -14,7 +14,7 @@ use Rattle.desk_tasks.specs.declared.ending.Ending.{Ending}
 use Rattle.desk_tasks.specs.declared.ending.Ending.TheVariants as ending
 use Rattle.desk_tasks.specs.Commands.{Ask, files_read, files_written}
 use Rattle.desk_tasks.specs.Inputs.{Inputs, Tells}
-use Rattle.desk_tasks.specs.Reading.{IsUnread, ReadsAmong, StopsAt, StandsFirst}
+use Rattle.desk_tasks.specs.Reading.{IsUnread, HasFewTurns, ReadsAmong, StopsAt, StandsFirst}
 use Rattle.desk_tasks.specs.Outcome.{Texts, Outcome}
 use Rattle.desk_tasks.specs.Runs.{World, world, Meaning, IsUnreported, IsWritten, Stops, Finishes, Does, HasCause, IsUnplaced, AreNamed, AreRead, IsReadWhole, IsSilent, Obeys, EndsBy, TellsEnd, Runs}
 use Rattle.desk_tasks.specs.Finishing.{Leaves, Completes}
@@ -134,7 +134,10 @@ silent_by before mid now o ending.Memory leaves = tt
 silent_by before mid now o (ending.OnDisk end) leaves = absurd leaves
 
 unread_on : (files : List File) (before mid now : Outside) (f : File) → WritesAmong files mid now → IsUnread before mid f → IsUnread before now f
-unread_on files before mid now f only h = record { left = only.left f ∙ h.left; faults = only.next_faults f ∙ h.faults }
+unread_on files before mid now f only h = record { left = only.left f ∙ h.left; turns = only.turns f ∙ h.turns; faults = only.next_faults f ∙ h.faults }
+
+few_on : (files : List File) (before mid now : Outside) (f : File) → WritesAmong files mid now → HasFewTurns before mid f → HasFewTurns before now f
+few_on files before mid now f only few = let stays : now.turns f ≡ mid.turns f = only.turns f in omega (arith, stays, few)
 
 unput_on : (before mid now : Outside) (f : File) → mid.written f ≡ before.written f → mid.put_faults f ≡ before.put_faults f → IsUnput mid now f → IsUnput before now f
 unput_on before mid now f written faults h = record { written = h.written ∙ written; faults = h.faults ∙ faults }
@@ -153,6 +156,7 @@ obeys-done M c before mid now sink sink' t how p h = record {
   silent = silent_by (world before sink) (world mid sink) (world now sink') (M.outcome t) how h.leaves;
   kept = h.kept;
   in_order = λ x tells r refused g lt. unread_on (files_written c) before mid now g h.only (p.tries.in_order x tells r refused g lt);
+  few = λ f. few_on (files_written c) before mid now f h.only (p.tries.only.few f);
   unread = λ f other. unread_on (files_written c) before mid now f h.only (p.tries.only.unread f other);
   unput = λ f other. unput_on before mid now f (p.tries.only.written f) (p.tries.only.put_faults f) (h.only.unput f other);
 }
@@ -176,6 +180,7 @@ obeys-refused M c before now sink r t gives = record {
   silent = tried_unreported M c before now sink t;
   kept = omega arith;
   in_order = t.in_order;
+  few = t.only.few;
   unread = t.only.unread;
   unput = λ f other. record { written = t.only.written f; faults = t.only.put_faults f };
 }
@@ -191,6 +196,7 @@ obeys-unread M c before now sink f t among rose stops gives = record {
   silent = (tried_unreported M c before now sink t, stops);
   kept = omega arith;
   in_order = t.in_order;
+  few = t.only.few;
   unread = t.only.unread;
   unput = λ g other. record { written = t.only.written g; faults = t.only.put_faults g };
 }
@@ -205,6 +211,7 @@ obeys-memory M c before now sink t = record {
   silent = tt;
   kept = omega arith;
   in_order = t.in_order;
+  few = t.only.few;
   unread = t.only.unread;
   unput = λ f other. record { written = t.only.written f; faults = t.only.put_faults f };
 }
@@ -214,8 +221,11 @@ obeys-memory M c before now sink t = record {
 tells_placed : (files : List File) (before placed : Outside) (x : Inputs) → PlacesOnly before placed → Tells files before x → Tells files placed x
 tells_placed files before placed x only tells f among = only.left f ∙ tells f among
 
+few_from : (before placed now : Outside) (f : File) → PlacesOnly before placed → HasFewTurns placed now f → HasFewTurns before now f
+few_from before placed now f only few = let stays : placed.turns f ≡ before.turns f = only.turns f in omega (arith, stays, few)
+
 unread_from : (before placed now : Outside) (f : File) → PlacesOnly before placed → IsUnread placed now f → IsUnread before now f
-unread_from before placed now f only h = record { left = h.left ∙ only.left f; faults = h.faults ∙ only.next_faults f }
+unread_from before placed now f only h = record { left = h.left ∙ only.left f; turns = h.turns ∙ only.turns f; faults = h.faults ∙ only.next_faults f }
 
 named_by : (d now : Option Directories) (dirs : Directories) (ok : Unit {0}) → Names d now dirs (let r : Result (Unit {0}) FolderFault = Ok ok in r) → IfSome d (λ was. now ≡ Some dirs)
 named_by None now dirs ok h = tt
@@ -311,6 +321,7 @@ obeys-placed M c dirs before placed now sink sink' how ok names only run = recor
   silent = silent_placed before placed now sink sink' how only run.silent;
   kept = run.kept;
   in_order = λ x tells r refused g lt. unread_from before placed now g only (run.in_order x (tells_placed (files_read c) before placed x only tells) r refused g lt);
+  few = λ f. few_from before placed now f only (run.few f);
   unread = λ f other. unread_from before placed now f only (run.unread f other);
   unput = λ f other. unput_on before placed now f (only.written f) (only.put_faults f) (run.unput f other);
 }

@@ -8,7 +8,7 @@ use Rattle.desk_tasks.specs.Promised.{MeansStatus, Stands, LeavesAlone, IsPromis
 use Rattle.desk_tasks.specs.Works.{Meanings, AtSomeWork}
 use Rattle.desk_tasks.proofs.CausesLaw.{run-asked, usage-from, usage-only, refused-from, refused-of, fault-of, complete-of}
 use Rattle.desk_tasks.proofs.DoneLaw.{done-of}
-use Rattle.desk_tasks.proofs.StandingLaw.{unwritten-of, begun-of, unread-of, in-order, unput-of, read-of, named-of, unnamed-of, fault-reported}
+use Rattle.desk_tasks.proofs.StandingLaw.{unwritten-of, begun-of, unread-of, few-of, in-order, unput-of, read-of, named-of, unnamed-of, fault-reported}
 
 -- no call failed of a command that is known
 faultless-asked : (ask : Option Ask) (a : Ask) (before now : World) → ask ≡ Some a → IsFaultless ask before now → IsFaultless (Some a) before now
@@ -33,6 +33,7 @@ stands-of M ask before now code run = record {
   named = λ a is dirs place at. named-of M a dirs before now code (run-asked M ask a before now code is run) place at;
   unwritten = unwritten-of M ask before now code run;
   begun = begun-of M ask before now code run;
+  few = few-of M ask before now code run;
   fault_reported = fault-reported M ask before now code run;
 }
 

@@ -1,5 +1,5 @@
 -- What stands outside after a run, from how it ended.
-use Rattle.std.proofs.Common.{◌≡◌, ℕ, false, ◌≤◌, List, length, take, refl, sym, subst, ap, ◌∙◌, arith, inl, inr, ◌⊎◌}
+use Rattle.std.proofs.Common.{◌≡◌, ℕ, false, ◌+◌, ◌≤◌, List, length, take, refl, sym, subst, ap, ◌∙◌, arith, inl, inr, ◌⊎◌}
 use Rattle.std.specs.Prelude.{Option, Some, None, IfSome, Result, Ok, Err, nat_le}
 use Rattle.std.specs.Io.KnownBytes.{Appends, Keeps}
 use Rattle.std.proofs.KnownBytes.{Appends-trans}
@@ -18,7 +18,7 @@ use Rattle.desk_tasks.specs.declared.ending.Ending.{Ending}
 use Rattle.desk_tasks.specs.declared.ending.Ending.TheVariants as ending
 use Rattle.desk_tasks.specs.Commands.{Ask, files_read, files_written, reads, writes}
 use Rattle.desk_tasks.specs.Inputs.{Inputs, Tells}
-use Rattle.desk_tasks.specs.Reading.{IsUnread, StopsAt}
+use Rattle.desk_tasks.specs.Reading.{IsUnread, HasFewTurns, StopsAt}
 use Rattle.desk_tasks.specs.Outcome.{Texts, fault_text, status_of}
 use Rattle.desk_tasks.specs.Runs.{World, Meaning, AreNamed, IsPlaced, IsUnreported, IsWritten, Stops, StopsIn, StopsInReport, SetsTask, Does, AreRead, IsUntouched, Obeys, EndsBy, Runs, status_after}
 use Rattle.desk_tasks.specs.Causes.{IsDoneAt}
@@ -119,11 +119,18 @@ unwritten-of M ask before now code run low high f =
 -- ---- no other file is read or written
 
 unread_by : {Rows Task : Type 0} (M : Meaning Rows Task) (ask : Option Ask) (before mid : World) (how : Ending) → EndsBy M ask before mid how → (f : File) → is_among f (reads ask) ≡ false → IsUnread before.folder mid.folder f
-unread_by M None before mid how ends f other = record { left = ap (λ (o : Outside). o.left f) ends.1.folder; faults = ap (λ (o : Outside). o.next_faults f) ends.1.folder }
+unread_by M None before mid how ends f other = record { left = ap (λ (o : Outside). o.left f) ends.1.folder; turns = ap (λ (o : Outside). o.turns f) ends.1.folder; faults = ap (λ (o : Outside). o.next_faults f) ends.1.folder }
 unread_by M (Some a) before mid how ends f other = ends.unread f other
 
 pub unread-of : {Rows Task : Type 0} (M : Meaning Rows Task) (ask : Option Ask) (before now : World) (code : ℕ) → Runs M ask before now code → (f : File) → is_among f (reads ask) ≡ false → IsUnread before.folder now.folder f
 unread-of M ask before now code run f other = unread_by M ask before (record { folder = now.folder; sink = run.sink }) run.how run.ends f other
+
+few_by : {Rows Task : Type 0} (M : Meaning Rows Task) (ask : Option Ask) (before mid : World) (how : Ending) → EndsBy M ask before mid how → (f : File) → HasFewTurns before.folder mid.folder f
+few_by M None before mid how ends f = let same : mid.folder.turns f ≡ before.folder.turns f = ap (λ (o : Outside). o.turns f) ends.1.folder in omega (arith, same)
+few_by M (Some a) before mid how ends f = ends.few f
+
+pub few-of : {Rows Task : Type 0} (M : Meaning Rows Task) (ask : Option Ask) (before now : World) (code : ℕ) → Runs M ask before now code → (f : File) → HasFewTurns before.folder now.folder f
+few-of M ask before now code run f = few_by M ask before (record { folder = now.folder; sink = run.sink }) run.how run.ends f
 
 pub in-order : {Rows Task : Type 0} (M : Meaning Rows Task) (a : Ask) (before now : World) (code : ℕ) → Runs M (Some a) before now code → (x : Inputs) → Tells (files_read a.command) before.folder x → (r : Refusal) → M.rows a.command x ≡ Err r → StopsAt r.file before.folder now.folder
 in-order M a before now code run x tells r refused g lt = run.ends.in_order x tells r refused g lt

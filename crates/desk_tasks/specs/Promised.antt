@@ -7,7 +7,7 @@ use Rattle.desk_folder.specs.Outputs.{is_among, IsUnput}
 use Rattle.desk_tasks.specs.declared.refusal.Refusal.{Refusal}
 use Rattle.desk_tasks.specs.Commands.{Ask, files_read, reads, writes}
 use Rattle.desk_tasks.specs.Inputs.{Inputs, Tells}
-use Rattle.desk_tasks.specs.Reading.{IsUnread, StopsAt}
+use Rattle.desk_tasks.specs.Reading.{IsUnread, HasFewTurns, StopsAt}
 use Rattle.desk_tasks.specs.Runs.{World, Meaning, AreRead, Runs}
 use Rattle.desk_tasks.specs.Causes.{IsUnlessMemory, IsDoneAt, IsDone, IsRefused, HasFault, IsReadable, IsFaultless, Answers}
 use Rattle.desk_tasks.specs.Standing.{AreBegun, finished_texts, ReportsFault, IsNamedAt, IsUnnamed}
@@ -41,6 +41,8 @@ pub record Stands {Rows Task : Type 0} (M : Meaning Rows Task) (ask : Option Ask
   pub unwritten : 2 ≤ code → code ≤ 4 → (f : File) → now.folder.written f ≡ before.folder.written f
   -- at any status the output files are whole up to one, of which there is a beginning, and there is nothing after it
   pub begun : (x : Inputs) → Tells (reads ask) before.folder x → AreBegun before.folder now.folder (finished_texts M ask x)
+  -- at any status a file was asked for its next bytes at most once more than it may have bytes
+  pub few : (f : File) → HasFewTurns before.folder now.folder f
   -- from 2 on the sink has got a beginning of the report, which is empty at 2, 3 and 4 and where an output file is not whole, and the
   -- line of the fault, which is empty at 7, and of which a rest is missing only at 6 and where the sink failed
   pub fault_reported : (x : Inputs) → Tells (reads ask) before.folder x → 2 ≤ code → ReportsFault M ask before now x code
@@ -49,7 +51,7 @@ pub record Stands {Rows Task : Type 0} (M : Meaning Rows Task) (ask : Option Ask
 pub record LeavesAlone {Rows Task : Type 0} (M : Meaning Rows Task) (ask : Option Ask) (before now : World) : Type 0 where
   -- where no directories are asked for none are named, and no naming failed
   pub unnamed : (a : Ask) → ask ≡ Some a → a.place ≡ None → IsUnnamed before now
-  -- of each file that the command does not read the bytes and the count of failed reads stay
+  -- of each file that the command does not read the bytes and the counts of turns and of failed reads stay
   pub unread : (f : File) → is_among f (reads ask) ≡ false → IsUnread before.folder now.folder f
   -- files are read in file order: none after one that its grammar refuses
   pub in_order : (a : Ask) → ask ≡ Some a → (x : Inputs) → Tells (files_read a.command) before.folder x → (r : Refusal) → M.rows a.command x ≡ Err r → StopsAt r.file before.folder now.folder

@@ -13,7 +13,7 @@ use Rattle.desk_tasks.specs.declared.ending.Ending.{Ending}
 use Rattle.desk_tasks.specs.declared.ending.Ending.TheVariants as ending
 use Rattle.desk_tasks.specs.declared.refusal.Refusal.{Refusal}
 use Rattle.desk_tasks.specs.Inputs.{Inputs, Tells}
-use Rattle.desk_tasks.specs.Reading.{IsRead, IsUnread, StopsAt, StandsFirst}
+use Rattle.desk_tasks.specs.Reading.{IsRead, IsUnread, HasFewTurns, StopsAt, StandsFirst}
 use Rattle.desk_tasks.specs.Outcome.{Texts, Outcome, fault_text, status_of}
 use Rattle.desk_tasks.specs.Commands.{Ask, files_read, files_written}
 
@@ -137,6 +137,8 @@ pub record Obeys {Rows Task : Type 0} (M : Meaning Rows Task) (a : Ask) (before 
   pub kept : before.sink.faults ≤ now.sink.faults
   -- no file is read after one that its grammar refuses
   pub in_order : (x : Inputs) → Tells (files_read a.command) before.folder x → (r : Refusal) → M.rows a.command x ≡ Err r → StopsAt r.file before.folder now.folder
+  -- each file is read in few turns
+  pub few : (f : File) → HasFewTurns before.folder now.folder f
   -- no other file is read, and none but those of the command is written
   pub unread : (f : File) → is_among f (files_read a.command) ≡ false → IsUnread before.folder now.folder f
   pub unput : (f : File) → is_among f (files_written a.command) ≡ false → IsUnput before.folder now.folder f

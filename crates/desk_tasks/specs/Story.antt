@@ -5,7 +5,7 @@ use Rattle.desk_folder.specs.declared.files.File.TheVariants as file
 use Rattle.desk_folder.specs.Outputs.{FileText}
 use Rattle.file_rows.specs.declared.cause.Cause.{Cause}
 use Rattle.file_rows.specs.declared.cause.Cause.TheVariants.{Size}
-use Rattle.file_rows.specs.Limits.{most_bytes, most_journal_bytes}
+use Rattle.file_rows.specs.Limits.{most_bytes}
 use Rattle.desk_text.specs.Rows.{◌>>=◌, text_rows}
 use Rattle.file_readers.specs.Config.{config_of}
 use Rattle.file_readers.specs.Airports.{airport_row}
@@ -28,6 +28,7 @@ use Rattle.desk_journal.specs.Journal.{journal_rows_of}
 use Rattle.file_joins.specs.Join.{events_of}
 use Rattle.file_readers.specs.Grammar.{refusal_in}
 use Rattle.file_joins.specs.Solution.{solution_of}
+use Rattle.desk_tasks.specs.Reading.{byte_limit}
 use Rattle.desk_tasks.specs.declared.refusal.Refusal.{Refusal}
 use Rattle.desk_words.specs.declared.asked.Command.{Command}
 use Rattle.desk_words.specs.declared.asked.Command.TheVariants as command_is
@@ -96,11 +97,6 @@ no_rows = record {
   plan_rotations = [];
   plan_itineraries = [];
 }
-
--- the most bytes of a file
-abbrev pub byte_limit : File → ℕ
-byte_limit file.Journal = most_journal_bytes
-byte_limit other = most_bytes
 
 -- a file whose lines are only tried
 abbrev pub unless_refused : Option (ℕ × Cause) → Result (Unit {0}) (ℕ × Cause)

@@ -7,9 +7,9 @@ ghost use Rattle.desk_folder.specs.Outputs.{is_among};
 ghost use Rattle.desk_tasks.specs.Inputs.{Inputs, Tells};
 ghost use Rattle.file_rows.specs.declared.cause.Cause.TheVariants as cause;
 ghost use Rattle.desk_tasks.specs.declared.fault.StoryFault.TheVariants as fault;
-ghost use Rattle.desk_tasks.specs.Story.{refusal, byte_limit, read_as, read_all};
+ghost use Rattle.desk_tasks.specs.Story.{refusal, read_as, read_all};
 ghost use Rattle.desk_tasks.specs.declared.refusal.Refusal.{Refusal as Refused};
-ghost use Rattle.desk_tasks.specs.Reading.{IsRead, ReadsAmong, StopsAt};
+ghost use Rattle.desk_tasks.specs.Reading.{byte_limit, HasFewTurns, IsRead, ReadsAmong, StopsAt};
 ghost use Rattle.desk_tasks.specs.StoryReading.{are_in_order, StopsAtFault, GivesRead, HasReadCause, NeedsNoFault};
 ghost use Rattle.desk_tasks.specs.Facts.{as_rows, AreInputRows};
 
@@ -98,6 +98,7 @@ fn read_one<F: Folder>(
     ensures cause { IfErr result (HasReadCause (file ∷ []) (F.outside folder.old) (F.outside folder.new)) }
     ensures only { ReadsOnly file (F.outside folder.old) (F.outside folder.new) }
     ensures kept { (F.outside folder.old).next_faults file ≤ (F.outside folder.new).next_faults file }
+    ensures few { HasFewTurns (F.outside folder.old) (F.outside folder.new) file }
     ensures facts { IfOk result AreInputRows }
 {
     let bytes = match read_file(alloc, folder, file, byte_limit(file)) {

@@ -43,7 +43,7 @@ stands_either x k was now sets (inr h) = inr (subst (λ (l : KeptStory). (record
 
 -- some world, which a run that ends before it writes leaves as it is
 some_world : World
-some_world = world (record { directories = None; left = λ f. None; written = λ f. None; place_faults = 0; next_faults = λ f. 0; put_faults = λ f. 0 }) (record { written = None; faults = 0 })
+some_world = world (record { directories = None; left = λ f. None; written = λ f. None; turns = λ f. 0; place_faults = 0; next_faults = λ f. 0; put_faults = λ f. 0 }) (record { written = None; faults = 0 })
 
 either_leaves : (x : Inputs) (k : KeptStory) (n : ℕ) (was now : DiskSide) → kept_of x ≡ Ok k → IsOwn k n was.file.bytes → Either k was now → LeavesOnly was now (IsOwn k n)
 either_leaves x k n was now sets own h =

@@ -1,5 +1,5 @@
 -- A run by the words, from that of their command after the naming of its directories.
-use Rattle.std.proofs.Common.{◌≡◌, ℕ, List, refl, sym, ap, subst, ◌∙◌, inl, inr, arith}
+use Rattle.std.proofs.Common.{◌≡◌, ℕ, ◌+◌, ◌≤◌, List, refl, sym, ap, subst, ◌∙◌, inl, inr, arith}
 use Rattle.std.specs.Prelude.{Option, None, Some, Result, Ok, Err}
 use Rattle.std.specs.Option.{option_map}
 use Rattle.desk_folder.specs.declared.faults.FolderFault.{FolderFault}
@@ -14,7 +14,7 @@ use Rattle.desk_words.specs.Commands.{Asking}
 use Rattle.desk_tasks.specs.Commands.{Ask, asks, asked_here, workers_of}
 use Rattle.desk_tasks.specs.declared.ending.Ending.{Ending}
 use Rattle.desk_tasks.specs.declared.ending.Ending.TheVariants as ending
-use Rattle.desk_tasks.specs.Reading.{IsUnread}
+use Rattle.desk_tasks.specs.Reading.{IsUnread, HasFewTurns}
 use Rattle.desk_tasks.specs.Outcome.{fault_text}
 use Rattle.desk_tasks.specs.Works.{IsUnbegun, IsFair}
 use Rattle.desk_tasks.specs.Runs.{World, world, Meaning, IsUnreported, EndsBy, TellsEnd}
@@ -92,7 +92,10 @@ pub run-here : (these : Option Asking) (c : Command) (before now : World) (code 
 run-here these c before now code is kept = asked_as these (c, None) before now code is (runs-of meanings (asked_here c) before now code kept)
 
 pub unread_placed : (before placed : Outside) (f : File) → PlacesOnly before placed → IsUnread before placed f
-unread_placed before placed f only = record { left = only.left f; faults = only.next_faults f }
+unread_placed before placed f only = record { left = only.left f; turns = only.turns f; faults = only.next_faults f }
+
+few_placed : (before placed : Outside) (f : File) → PlacesOnly before placed → HasFewTurns before placed f
+few_placed before placed f only = let stays : placed.turns f ≡ before.turns f = only.turns f in omega (arith, stays)
 
 pub unput_placed : (before placed : Outside) (f : File) → PlacesOnly before placed → IsUnput before placed f
 unput_placed before placed f only = record { written = only.written f; faults = only.put_faults f }
@@ -108,6 +111,7 @@ obeys-unplaced M c dirs before placed sink only rose = record {
   silent = (record { written = only.written; sink = refl }, λ f. unread_placed before placed f only);
   kept = omega arith;
   in_order = λ x tells r refused g lt. unread_placed before placed g only;
+  few = λ f. few_placed before placed f only;
   unread = λ f other. unread_placed before placed f only;
   unput = λ f other. unput_placed before placed f only;
 }
@@ -122,6 +126,7 @@ obeys-unnamed M c dirs before placed sink only = record {
   silent = tt;
   kept = omega arith;
   in_order = λ x tells r refused g lt. unread_placed before placed g only;
+  few = λ f. few_placed before placed f only;
   unread = λ f other. unread_placed before placed f only;
   unput = λ f other. unput_placed before placed f only;
 }

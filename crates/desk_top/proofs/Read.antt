@@ -25,7 +25,8 @@ use Rattle.file_readers.specs.Grammar.{refusal_in}
 use Rattle.desk_words.specs.declared.asked.Command.TheVariants as command_is
 use Rattle.desk_tasks.specs.Commands.{files_read}
 use Rattle.desk_tasks.specs.Inputs.{Inputs}
-use Rattle.desk_tasks.specs.Story.{Rows, no_rows, byte_limit, unless_refused, with_rows, within_limit, in_file, read_as, read_all, rows_of}
+use Rattle.desk_tasks.specs.Reading.{byte_limit}
+use Rattle.desk_tasks.specs.Story.{Rows, no_rows, unless_refused, with_rows, within_limit, in_file, read_as, read_all, rows_of}
 use Rattle.desk_top.specs.Due.{IsNumbered}
 use Rattle.desk_top.proofs.Parts.{bound, same_Ok, or_refused-Ok}
 use Rattle.desk_top.proofs.Numbered.{journal_numbered}

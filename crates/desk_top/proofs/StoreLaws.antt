@@ -127,6 +127,7 @@ stopped_runs before mid now faults faults' shown shown' k (ending.OnDisk end) co
   read = p.read;
   says = λ x tells. (k, p.sets x tells, disk);
   written = p.tries.only.written;
+  few = p.tries.only.few;
   unread = p.tries.only.unread;
   unput = λ f. record { written = p.tries.only.written f; faults = p.tries.only.put_faults f };
   sink_kept = given.line.faults.kept;

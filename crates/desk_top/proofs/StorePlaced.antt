@@ -1,5 +1,5 @@
 -- A run that keeps its journal on a disk, from the naming of its directories.
-use Rattle.std.proofs.Common.{◌≡◌, ◌⊎◌, inl, inr, ℕ, ◌≤◌, true, false, List, [], refl, sym, ap, subst, ◌∙◌, arith}
+use Rattle.std.proofs.Common.{◌≡◌, ◌⊎◌, inl, inr, ℕ, ◌+◌, ◌≤◌, true, false, List, [], refl, sym, ap, subst, ◌∙◌, arith}
 use Rattle.std.specs.Prelude.{Option, Some, None, IfSome, Result, Ok, Err}
 use Rattle.std.specs.Option.{option_map}
 use Rattle.desk_folder.specs.declared.files.File.{File}
@@ -23,7 +23,7 @@ use Rattle.desk_tasks.specs.declared.ending.Ending.{Ending}
 use Rattle.desk_tasks.specs.declared.ending.Ending.TheVariants as ending
 use Rattle.desk_tasks.specs.Commands.{asks, asks_disk, files_read, is_of_disk}
 use Rattle.desk_tasks.specs.Inputs.{Inputs, Tells}
-use Rattle.desk_tasks.specs.Reading.{IsUnread}
+use Rattle.desk_tasks.specs.Reading.{IsUnread, HasFewTurns}
 use Rattle.desk_tasks.specs.Outcome.{status_of}
 use Rattle.desk_tasks.proofs.CausesLaw.{status_cases}
 use Rattle.desk_tasks.specs.Runs.{World, world, TellsEnd, status_after}
@@ -66,10 +66,13 @@ pub tells-placed : (before placed : Outside) (x : Inputs) → PlacesOnly before 
 tells-placed before placed x only tells f among = only.left f ∙ tells f among
 
 unread_from : (before placed now : Outside) (f : File) → PlacesOnly before placed → IsUnread placed now f → IsUnread before now f
-unread_from before placed now f only h = record { left = h.left ∙ only.left f; faults = h.faults ∙ only.next_faults f }
+unread_from before placed now f only h = record { left = h.left ∙ only.left f; turns = h.turns ∙ only.turns f; faults = h.faults ∙ only.next_faults f }
+
+few_from : (before placed now : Outside) (f : File) → PlacesOnly before placed → HasFewTurns placed now f → HasFewTurns before now f
+few_from before placed now f only few = let stays : placed.turns f ≡ before.turns f = only.turns f in omega (arith, stays, few)
 
 pub still : (folder : Outside) → PlacesOnly folder folder
-still folder = record { left = λ f. refl; written = λ f. refl; next_faults = λ f. refl; put_faults = λ f. refl }
+still folder = record { left = λ f. refl; written = λ f. refl; turns = λ f. refl; next_faults = λ f. refl; put_faults = λ f. refl }
 
 named_by : (d now : Option Directories) (dirs : Directories) (ok : Unit {0}) → Names d now dirs (let r : Result (Unit {0}) FolderFault = Ok ok in r) → IfSome d (λ was. now ≡ Some dirs)
 named_by None now dirs ok names = tt
@@ -95,6 +98,7 @@ at_disk_placed dirs before placed now sink sink' faults faults' shown shown' cod
   read = λ f among. read_from (before.left f) (placed.left f) (now.left f) (only.left f) (h.read f among);
   says = λ x tells. h.says x (tells-placed before placed x only tells);
   written = λ f. h.written f ∙ only.written f;
+  few = λ f. few_from before placed now f only (h.few f);
   unread = λ f other. unread_from before placed now f only (h.unread f other);
   unput = λ f. record { written = (h.unput f).written ∙ only.written f; faults = (h.unput f).faults ∙ only.put_faults f };
   sink_kept = h.sink_kept;
@@ -163,7 +167,7 @@ kept-undisked before now faults faults' shown shown' code rose same given = inl 
   named = record { no_fault = λ e. absurd cc; directories = refl; faults = refl };
   same = same;
   written = λ f. refl;
-  unread = λ f. record { left = refl; faults = refl };
+  unread = λ f. record { left = refl; turns = refl; faults = refl };
   unput = λ f. record { written = refl; faults = refl };
   sink_kept = given.line.faults.kept;
 })
@@ -171,14 +175,15 @@ kept-undisked before now faults faults' shown shown' code rose same given = inl 
 nothing_read : (folder : Outside) → Tries (kept_meaning 0) command_is.Store folder folder
 nothing_read folder = record {
   only = record {
-    unread = λ f other. record { left = refl; faults = refl };
+    unread = λ f other. record { left = refl; turns = refl; faults = refl };
     kept = λ f. omega arith;
+    few = λ f. omega arith;
     directories = refl;
     written = λ f. refl;
     place_faults = refl;
     put_faults = λ f. refl;
   };
-  in_order = λ x tells r refused g lt. record { left = refl; faults = refl };
+  in_order = λ x tells r refused g lt. record { left = refl; turns = refl; faults = refl };
 }
 
 pub kept-unremembered : (before : World) (now : SinkSide) (faults faults' : ℕ) (shown shown' : Option DiskSide) (code : ℕ) → TellsEnd ending.Memory before.sink now code → RunsOnDisk (Some (here command_is.Store)) before (world before.folder now) faults faults' shown shown' code
@@ -294,6 +299,7 @@ kept-disked before now first faults faults' shown mid shown' code ok le nothing 
   read = h.read;
   says = λ x tells. says_placed x shown mid shown' ok h.how nothing placed (h.says x tells);
   written = h.written;
+  few = h.few;
   unread = h.unread;
   unput = h.unput;
   sink_kept = h.sink_kept;
@@ -332,7 +338,7 @@ pub unread-placed : (before placed now : Outside) → PlacesOnly before placed �
 unread-placed before placed now only h f = unread_from before placed now f only (h f)
 
 pub unread-still : (folder : Outside) (f : File) → IsUnread folder folder f
-unread-still folder f = record { left = refl; faults = refl }
+unread-still folder f = record { left = refl; turns = refl; faults = refl }
 
 -- ---- the directory of the disk
 

@@ -18,7 +18,7 @@ use Rattle.desk_tasks.specs.declared.ending.Ending.{Ending}
 use Rattle.desk_tasks.specs.declared.ending.Ending.TheVariants as ending
 use Rattle.desk_tasks.specs.Commands.{Ask, files_read, reads}
 use Rattle.desk_tasks.specs.Inputs.{Inputs, Tells}
-use Rattle.desk_tasks.specs.Reading.{IsUnread}
+use Rattle.desk_tasks.specs.Reading.{IsUnread, HasFewTurns}
 use Rattle.desk_tasks.specs.Outcome.{fault_text}
 use Rattle.desk_tasks.specs.Runs.{World, Meaning, AreRead, IsPlaced, status_after}
 use Rattle.desk_tasks.specs.Works.{IsUnbegun}
@@ -108,6 +108,7 @@ pub record EndsAtDisk (ask : Option Ask) (before now : World) (faults faults' : 
   pub read : AreRead (files_read command_is.Store) before.folder now.folder
   pub says : (x : Inputs) → Tells (files_read command_is.Store) before.folder x → JournalSays x shown shown' how
   pub written : (f : File) → now.folder.written f ≡ before.folder.written f
+  pub few : (f : File) → HasFewTurns before.folder now.folder f
   pub unread : (f : File) → is_among f (reads ask) ≡ false → IsUnread before.folder now.folder f
   pub unput : (f : File) → IsUnput before.folder now.folder f
   pub sink_kept : before.sink.faults ≤ now.sink.faults

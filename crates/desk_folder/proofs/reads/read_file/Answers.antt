@@ -17,6 +17,7 @@ returns-then-is_err g c =
       size = λ e. absurd (cc);
       failed = λ e. absurd (cc);
       kept = omega arith;
+      turns = let turn = c.in_ok-taken.ensures.turn in let so_far = c.loop-piece.invariant.turns in let fits = c.loop-piece.invariant.fits in omega (arith, turn, so_far, fits);
       left = (_, Consumes-trans (before.left file) (mid.left file) (now.left file) _ _ c.loop-piece.invariant.bytes c.in_ok-taken.ensures.bytes.0);
       others = ReadsOnly-trans file before mid now c.loop-piece.invariant.others c.in_ok-taken.ensures.others;
     }

@@ -21,14 +21,15 @@ pub returns-in-Err-clause-only : goal.returns-in-Err-clause-only
 returns-in-Err-clause-only g t c =
     let outside = g.F.Folder.outside in
     subst (λ (fs : List File). ReadsAmong fs (outside c.args.folder.now) (outside c.read_one.new.folder)) (sym c.in-Some.ensures)
-    (reads-first c.in-Some.file c.in-Some.others.now (outside c.args.folder.now) (outside c.read_one.new.folder) c.read_one.ensures.only c.read_one.ensures.kept)
+    (reads-first c.in-Some.file c.in-Some.others.now (outside c.args.folder.now) (outside c.read_one.new.folder) c.read_one.ensures.only c.read_one.ensures.kept c.read_one.ensures.few)
 
 pub returns-clause-only : goal.returns-clause-only
 returns-clause-only g t c =
     let outside = g.F.Folder.outside in
+    let order : are_in_order (c.in-Some.file ∷ c.in-Some.others.now) ≡ true = subst (λ (fs : List File). are_in_order fs ≡ true) c.in-Some.ensures c.requires.order in
     subst (λ (fs : List File). ReadsAmong fs (outside c.args.folder.now) (outside c.read_files.new.folder)) (sym c.in-Some.ensures)
-    (reads-rest c.in-Some.file c.in-Some.others.now (outside c.args.folder.now) (outside c.read_one.new.folder) (outside c.read_files.new.folder)
-    c.read_one.ensures.only c.read_one.ensures.kept c.read_files.ensures.only)
+    (reads-rest c.in-Some.file c.in-Some.others.now (outside c.args.folder.now) (outside c.read_one.new.folder) (outside c.read_files.new.folder) order
+    c.read_one.ensures.only c.read_one.ensures.kept c.read_one.ensures.few c.read_files.ensures.only)
 
 pub returns-clause-read : goal.returns-clause-read
 returns-clause-read g t c =

@@ -7,6 +7,7 @@ returns g c = record {
   directories = rw (c.new.ensures.bytes, c.new-2.ensures.bytes) refl;
   left = λ f. refl;
   written = λ f. refl;
+  turns = λ f. count-zero f;
   place_faults = refl;
   next_faults = λ f. count-zero f;
   put_faults = λ f. count-zero f;
