@@ -1,6 +1,5 @@
 //! The tests, by what they ask. The walks of boards, by board, are here.
 
-mod added;
 mod boards;
 mod changes;
 mod checks;
