@@ -37,6 +37,14 @@ fn read_four(rt: HostRuntime, directory: &str, at: u64) -> Result<(), DiskFault>
     disk.read_at(alloc, at, &mut into)
 }
 
+/// Whether a file has this text.
+fn has_text(rt: &HostRuntime, path: &str, want: &str) -> bool {
+    match fs::read_to_string(rt, path) {
+        Ok(text) => text.as_str() == want,
+        Err(_) => false,
+    }
+}
+
 /// Writes one behind another, and what the file has then: over its bytes, at its end, and past its end.
 const WRITES: [(u64, &str, &str); 4] = [
     (0, "abcdef", "abcdef"),
@@ -68,19 +76,23 @@ fn the_hosts_disk_fails_where_its_file_is_a_directory(rt: HostRuntime) {
     assert!(rt; fs::remove_dir_all(&rt, "no_disk").is_ok());
 }
 
+/// Whether a disk fails while another one has the file of a directory open, and says that it has.
+fn is_kept_out(rt: HostRuntime, directory: &str, second: &mut HostDisk<HostRuntime>) -> bool {
+    let alloc = rt.alloc();
+    let mut first = HostDisk::new(rt, alloc);
+    if first.place(alloc, directory).is_err() || first.length(alloc) != Ok(3) {
+        return false;
+    }
+    second.length(alloc) == Err(DiskFault::Failed) && second.is_held()
+}
+
 #[test]
 fn the_hosts_disk_fails_where_another_has_its_file(rt: HostRuntime) {
     let alloc = rt.alloc();
     assert_eq!(rt; write_in(rt, "held_disk", 0, "abc"), Ok(()));
     let mut second = HostDisk::new(rt, alloc);
     assert_eq!(rt; second.place(alloc, "held_disk/."), Ok(()));
-    {
-        let mut first = HostDisk::new(rt, alloc);
-        assert_eq!(rt; first.place(alloc, "held_disk"), Ok(()));
-        assert_eq!(rt; first.length(alloc), Ok(3));
-        assert_eq!(rt; second.length(alloc), Err(DiskFault::Failed));
-        assert!(rt; second.is_held());
-    }
+    assert!(rt; is_kept_out(rt, "held_disk", &mut second));
     assert_eq!(rt; second.length(alloc), Ok(3));
     assert!(rt; !second.is_held());
     assert!(rt; fs::remove_dir_all(&rt, "held_disk").is_ok());
@@ -93,12 +105,8 @@ fn the_hosts_disk_brings_what_it_reads_to_a_new_file(rt: HostRuntime) {
     assert_eq!(rt; write_in(rt, "new_file", 0, "abc"), Ok(()));
     assert!(rt; fs::hard_link(&rt, "new_file/in/kept", "new_file/in/before").is_ok());
     assert_eq!(rt; write_in(rt, "new_file", 1, "XY"), Ok(()));
-    assert!(rt;
-        matches!(fs::read_to_string(&rt, "new_file/in/before"), Ok(text) if text.as_str() == "abc")
-    );
-    assert!(rt;
-        matches!(fs::read_to_string(&rt, "new_file/in/kept"), Ok(text) if text.as_str() == "aXY")
-    );
+    assert!(rt; has_text(&rt, "new_file/in/before", "abc"));
+    assert!(rt; has_text(&rt, "new_file/in/kept", "aXY"));
     assert!(rt; fs::metadata(&rt, "new_file/in/kept.new").is_err());
     assert!(rt; reads(rt, "new_file", "aXY"));
     assert!(rt; fs::remove_dir_all(&rt, "new_file").is_ok());
