@@ -1,5 +1,5 @@
 -- What the steps of a call add up to, and beginnings of legal histories.
-use Rattle.std.proofs.Common.{◌≡◌, ℕ, zero, suc, true, false, List, [], ◌∷◌, ◌++◌, Option, Some, refl, sym, ap, ◌∙◌, subst, take, slice_get}
+use Rattle.std.proofs.Common.{◌≡◌, ℕ, zero, suc, ◌+◌, true, false, List, [], ◌∷◌, ◌++◌, Option, Some, refl, sym, ap, ◌∙◌, subst, take, slice_get}
 use Rattle.std.proofs.lemmas.List.{append-nil}
 use mathlib.Core.List.{IsPrefix}
 use Rattle.atomic_table.specs.Table.{Me}
@@ -10,17 +10,18 @@ use Rattle.turn_book.specs.Knowing.{view}
 use Rattle.turn_book.specs.Passes.{Looked}
 
 module _ {S O I : Type 0} where
-  pub at_rest : (m : Me S (View O I)) (from : Option O) (seen : List I) (made : List ℕ) (tags : Tags I) → m ≡ (view from false false seen made tags, [])
-      → m ≡ (view m.0.from false false m.0.seen m.0.made m.0.tags, [])
-  at_rest m from seen made tags e = e ∙ ap (λ (x : Me S (View O I)). (view x.0.from false false x.0.seen x.0.made x.0.tags, [])) (sym e)
+  pub at_rest : (m : Me S (View O I)) (from : Option O) (seen : List I) (made : List ℕ) (tags : Tags I) (turns : ℕ) → m ≡ (view from false false seen made tags turns, [])
+      → m ≡ (view m.0.from false false m.0.seen m.0.made m.0.tags m.0.turns, [])
+  at_rest m from seen made tags turns e = e ∙ ap (λ (x : Me S (View O I)). (view x.0.from false false x.0.seen x.0.made x.0.tags x.0.turns, [])) (sym e)
 
   pub looks : (a b c d : Me S (View O I)) (more : List (ℕ × S)) (before after : List I)
-      → b ≡ (view a.0.from true false a.0.seen a.0.made a.0.tags, []) → c ≡ (view b.0.from true true before b.0.made b.0.tags, more) → IsPrefix b.0.seen before
-      → d ≡ (view c.0.from false false after (c.0.made ++ []) c.0.tags, []) → after ≡ before → Looked a.0 d.0
+      → b ≡ (view a.0.from true false a.0.seen a.0.made a.0.tags (a.0.turns + 1), []) → c ≡ (view b.0.from true true before b.0.made b.0.tags b.0.turns, more) → IsPrefix b.0.seen before
+      → d ≡ (view c.0.from false false after (c.0.made ++ []) c.0.tags c.0.turns, []) → after ≡ before → Looked a.0 d.0
   looks a b c d more before after took began seen ended same = record {
     began = subst (λ (y : List I × List I). IsPrefix y.0 y.1) (λ i. (ap (λ (m : Me S (View O I)). m.0.seen) took i, sym (ap (λ (m : Me S (View O I)). m.0.seen) ended ∙ same) i)) seen;
     made = ap (λ (m : Me S (View O I)). m.0.made) ended ∙ append-nil c.0.made ∙ ap (λ (m : Me S (View O I)). m.0.made) began ∙ ap (λ (m : Me S (View O I)). m.0.made) took;
     tags = ap (λ (m : Me S (View O I)). m.0.tags) ended ∙ ap (λ (m : Me S (View O I)). m.0.tags) began ∙ ap (λ (m : Me S (View O I)). m.0.tags) took;
+    turn = ap (λ (m : Me S (View O I)). m.0.turns) ended ∙ ap (λ (m : Me S (View O I)). m.0.turns) began ∙ ap (λ (m : Me S (View O I)). m.0.turns) took;
   }
 
 pub some_same : {A : Type 0} (x y : A) → Some x ≡ Some y → x ≡ y

@@ -29,7 +29,7 @@ module _ {B O I : Type 0} (opening : B → O) (journal : B → List I) (legal : 
   pub takes_allowed : (n seat : ℕ) (v : View O I) → IsLive v → v.has_turn ≡ false → v.has_read ≡ false
       → Allows (TurnRule opening journal legal key) n seat (v, []) 0 (λ x. either (x == 0) 1 x) (takes_turn (step n 0 0 1 none) (v, []))
   takes_allowed n seat v live off unread s h wide at small =
-      let w : View O I = view v.from true false v.seen v.made v.tags in
+      let w : View O I = view v.from true false v.seen v.made v.tags (v.turns + 1) in
       let o : O = opening key in
       let start : List I = journal key in
       dite (ℕ_discrete h.phase 0)
@@ -92,7 +92,7 @@ module _ {B O I : Type 0} (opening : B → O) (journal : B → List I) (legal : 
       let apart : h.phase ≢ 2 = λ two. on (sym unread ∙ f.has_read mine.0 two) in
       let x : IsHome opening journal legal key h.log s.homes = h.home apart in
       let b : B = x.book in
-      let w : View O I = view v.from true true (journal b) v.made v.tags in
+      let w : View O I = view v.from true true (journal b) v.made v.tags v.turns in
       let ws : s.words ≡ 1 ∷ length h.log ∷ [] = h.words ∙ ap (λ (p : ℕ). p ∷ length h.log ∷ []) (held_one h.phase (λ z. let p : 0 < h.phase = mine.1 in absurd (omega arith))) in
       let whole : IsPrefix (journal b) h.log = subst (λ (l : List I). IsPrefix l h.log) (sym x.all) (prefix_self h.log) in
       let longer : IsPrefix v.seen (journal b) = subst (λ (l : List I). IsPrefix v.seen l) (sym x.all) f.seen in
@@ -153,7 +153,7 @@ module _ {B O I : Type 0} (opening : B → O) (journal : B → List I) (legal : 
       let same : v.seen ≡ h.log = f.whole on_read in
       let place : ℕ = length v.seen in
       let log : List I = v.seen ++ added in
-      let w : View O I = view v.from true true log (v.made ++ place ∷ []) v.tags in
+      let w : View O I = view v.from true true log (v.made ++ place ∷ []) v.tags v.turns in
       let owner : ℕ → ℕ = λ k. cond (k == place) seat (h.owner k) in
       let long : length log ≡ place + 1 = length-append v.seen added ∙ ap (λ (k : ℕ). place + k) one in
       let ws : s.words ≡ 1 ∷ place ∷ [] = h.words ∙ (λ i. held (mine.1 i) ∷ length (sym same i) ∷ []) in
@@ -218,7 +218,7 @@ module _ {B O I : Type 0} (opening : B → O) (journal : B → List I) (legal : 
       let f : ViewRule o start h.log h.who h.phase h.owner seat v = h.each seat v at live in
       let mine : (seat ≡ h.who) × (h.phase ≡ 2) = f.read on_read in
       let same : v.seen ≡ h.log = f.whole on_read in
-      let w : View O I = view v.from false false v.seen v.made v.tags in (
+      let w : View O I = view v.from false false v.seen v.made v.tags v.turns in (
         w,
         gives,
         tt,
@@ -256,28 +256,28 @@ module _ {B O I : Type 0} (opening : B → O) (journal : B → List I) (legal : 
       )
 
   -- the same at a seat that is known to be so
-  pub takes_as : (n seat : ℕ) (m : Me (Option B) (View O I)) → IsLive m.0 → m ≡ (view m.0.from false false m.0.seen m.0.made m.0.tags, [])
+  pub takes_as : (n seat : ℕ) (m : Me (Option B) (View O I)) → IsLive m.0 → m ≡ (view m.0.from false false m.0.seen m.0.made m.0.tags m.0.turns, [])
       → Allows (TurnRule opening journal legal key) n seat m 0 (λ x. either (x == 0) 1 x) (takes_turn (step n 0 0 1 none) m)
   takes_as n seat m live e =
       subst (λ (x : Me (Option B) (View O I)). Allows (TurnRule opening journal legal key) n seat x 0 (λ y. either (y == 0) 1 y) (takes_turn (step n 0 0 1 none) x)) (sym e)
-      (takes_allowed n seat (view m.0.from false false m.0.seen m.0.made m.0.tags) live refl refl)
+      (takes_allowed n seat (view m.0.from false false m.0.seen m.0.made m.0.tags m.0.turns) live refl refl)
 
-  pub reads_as : (n seat : ℕ) (m : Me (Option B) (View O I)) → IsLive m.0 → m ≡ (view m.0.from true false m.0.seen m.0.made m.0.tags, [])
+  pub reads_as : (n seat : ℕ) (m : Me (Option B) (View O I)) → IsLive m.0 → m ≡ (view m.0.from true false m.0.seen m.0.made m.0.tags m.0.turns, [])
       → Allows (TurnRule opening journal legal key) n seat m 1 (λ x. x) (reads_front opening journal legal (step n 1 0 0 none) m)
   reads_as n seat m live e =
       subst (λ (x : Me (Option B) (View O I)). Allows (TurnRule opening journal legal key) n seat x 1 (λ y. y) (reads_front opening journal legal (step n 1 0 0 none) x)) (sym e)
-      (reads_allowed n seat (view m.0.from true false m.0.seen m.0.made m.0.tags) live refl refl)
+      (reads_allowed n seat (view m.0.from true false m.0.seen m.0.made m.0.tags m.0.turns) live refl refl)
 
-  pub counts_as : (n seat : ℕ) (m : Me (Option B) (View O I)) (b : B) (added : List I) → m ≡ (view m.0.from true true m.0.seen m.0.made m.0.tags, (0, None) ∷ [])
+  pub counts_as : (n seat : ℕ) (m : Me (Option B) (View O I)) (b : B) (added : List I) → m ≡ (view m.0.from true true m.0.seen m.0.made m.0.tags m.0.turns, (0, None) ∷ [])
       → m.0.from ≡ Some (opening b) → journal b ≡ m.0.seen ++ added → length added ≡ 1 → legal (opening b) (journal b) → length (journal b) < 2 ^ 32
       → Allows (TurnRule opening journal legal key) n seat m 1 (λ x. (x + 1) % 2 ^ 64) (counts_entry added (step n 1 1 0 none) m)
   counts_as n seat m b added e from is one lawful short =
       subst (λ (x : Me (Option B) (View O I)). Allows (TurnRule opening journal legal key) n seat x 1 (λ y. (y + 1) % 2 ^ 64) (counts_entry added (step n 1 1 0 none) x)) (sym e)
-      (counts_allowed n seat (view m.0.from true true m.0.seen m.0.made m.0.tags) ((0, None) ∷ []) b added refl refl from is one lawful short)
+      (counts_allowed n seat (view m.0.from true true m.0.seen m.0.made m.0.tags m.0.turns) ((0, None) ∷ []) b added refl refl from is one lawful short)
 
-  pub gives_as : (n seat : ℕ) (m : Me (Option B) (View O I)) (b : B) → m ≡ (view m.0.from true true m.0.seen m.0.made m.0.tags, (0, Some b) ∷ [])
+  pub gives_as : (n seat : ℕ) (m : Me (Option B) (View O I)) (b : B) → m ≡ (view m.0.from true true m.0.seen m.0.made m.0.tags m.0.turns, (0, Some b) ∷ [])
       → m.0.from ≡ Some (opening b) → journal b ≡ m.0.seen
       → Allows (TurnRule opening journal legal key) n seat m 0 (λ _. 0) (λ _. gives_turn (step n 0 0 0 none) m 0)
   gives_as n seat m b e from is =
       subst (λ (x : Me (Option B) (View O I)). Allows (TurnRule opening journal legal key) n seat x 0 (λ _. 0) (λ _. gives_turn (step n 0 0 0 none) x 0)) (sym e)
-      (gives_allowed n seat (view m.0.from true true m.0.seen m.0.made m.0.tags) b refl refl from is)
+      (gives_allowed n seat (view m.0.from true true m.0.seen m.0.made m.0.tags m.0.turns) b refl refl from is)

@@ -6,8 +6,8 @@ use Rattle.turn_book.specs.declared.view.Tags.{Tags}
 use Rattle.turn_book.specs.Names.{Name, without}
 use Rattle.turn_book.specs.Places.{has, Ascends, merge}
 
-abbrev pub view : {O I : Type 0} → Option O → Bool → Bool → List I → List ℕ → Tags I → View O I
-view from turn read seen made tags = record { from = from; has_turn = turn; has_read = read; seen = seen; made = made; tags = tags }
+abbrev pub view : {O I : Type 0} → Option O → Bool → Bool → List I → List ℕ → Tags I → ℕ → View O I
+view from turn read seen made tags turns = record { from = from; has_turn = turn; has_read = read; seen = seen; made = made; tags = tags; turns = turns }
 
 -- a pass of this name, of which none was split and which took none in
 abbrev pub tags_at : {I : Type 0} → Name → Tags I
@@ -15,7 +15,7 @@ tags_at n = record { name = n; splits = 0; names = n ∷ []; out = []; left = []
 
 -- the pass that a turn is opened with
 abbrev pub opened : {O I : Type 0} → O → List I → View O I
-opened o seen = view (Some o) false false seen [] (tags_at [])
+opened o seen = view (Some o) false false seen [] (tags_at []) 0
 
 -- the pass was not joined into another
 abbrev pub IsLive : {O I : Type 0} → View O I → Type 0
@@ -44,11 +44,11 @@ split_tags t = record {
 
 -- A split: the pass has seen and made what it had, and the new one is out.
 abbrev pub split_left : {O I : Type 0} → View O I → View O I
-split_left v = view v.from v.has_turn v.has_read v.seen v.made (split_tags v.tags)
+split_left v = view v.from v.has_turn v.has_read v.seen v.made (split_tags v.tags) v.turns
 
--- A split: the new pass has seen as much, and has made no calls.
+-- A split: the new pass has seen as much, has made no calls and has had no turn.
 abbrev pub split_right : {O I : Type 0} → View O I → View O I
-split_right v = view v.from false false v.seen [] (tags_at (next_name v.tags))
+split_right v = view v.from false false v.seen [] (tags_at (next_name v.tags)) 0
 
 -- the longer list, or the first where they are equally long
 abbrev pub longer : {I : Type 0} → List I → List I → List I
@@ -67,13 +67,13 @@ join_tags v w = record {
   right_made = w.made;
 }
 
--- A join: the pass has the longer history, and the places and the names of both.
+-- A join: the pass has the longer history, and the places, the names and the turns of both.
 abbrev pub joined : {O I : Type 0} → View O I → View O I → View O I
-joined v w = view v.from v.has_turn v.has_read (longer v.seen w.seen) (merge v.made w.made) (join_tags v w)
+joined v w = view v.from v.has_turn v.has_read (longer v.seen w.seen) (merge v.made w.made) (join_tags v w) (v.turns + w.turns)
 
 -- A join: what is left of the other pass.
 abbrev pub spent : {O I : Type 0} → View O I
-spent = view None false false [] [] (tags_at [])
+spent = view None false false [] [] (tags_at []) 0
 
 -- one of the lists begins the other
 abbrev pub AreNested : {I : Type 0} → List I → List I → Type 0

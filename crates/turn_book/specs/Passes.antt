@@ -1,5 +1,5 @@
 -- What clauses say of a turn and its passes.
-use Rattle.std.specs.Prelude.{◌≡◌, ℕ, Bool, List, ◌++◌, Option, Some, is_some}
+use Rattle.std.specs.Prelude.{◌≡◌, ℕ, ◌+◌, Bool, List, ◌++◌, Option, Some, is_some}
 use mathlib.Core.List.{IsPrefix}
 use Rattle.turn_book.specs.declared.turn.Pass.{Pass}
 use Rattle.turn_book.specs.declared.turn.Turn.{Turn}
@@ -20,6 +20,10 @@ module _ {B O A R I : Type 0} {k : _} where
   -- the places in that history of the entries that its calls added
   abbrev pub made : Pass B O A R I k → List ℕ
   made p = p.seat.me.0.made
+
+  -- how often it had the turn
+  abbrev pub turns : Pass B O A R I k → ℕ
+  turns p = p.seat.me.0.turns
 
   -- how a pass is named, what is out, and of its last join the two passes
   abbrev pub tags : Pass B O A R I k → Tags I
@@ -45,14 +49,15 @@ first_book t = t.table.shared.key.value
 abbrev pub IsPassOf : {B O A R I : Type 0} {k : _} → (B → O) → Turn B O A R I → Pass B O A R I k → Type 0
 IsPassOf opening t p = (p.seat.table_id ≡ t.table.shared.table_id) × (p.seat.me.0.from ≡ Some (opening (first_book t)))
 
--- More of the history was seen, and no call made.
+-- The pass had the turn once: more of the history was seen, which was all of it then, and no call made.
 pub record Looked {O I : Type 0} (v w : View O I) : Type 0 where
   pub began : IsPrefix v.seen w.seen
   pub made : w.made ≡ v.made
   pub tags : w.tags ≡ v.tags
+  pub turn : w.turns ≡ v.turns + 1
 
 module _ {O A R I : Type 0} (answers : O → List I → ℕ → A → R → Option I → Type 0) (tells : R → Bool) (o : O) where
-  -- A call. Before is the history that stood at its turn. It begins with all that was seen, and the reply is one at it, and says whether there is an item; that comes after it, and its place is made.
+  -- A call, which has the turn once. Before is the history that stood at its turn. It begins with all that was seen, and the reply is one at it, and says whether there is an item; that comes after it, and its place is made.
   pub record Called (v : View O I) (caller : ℕ) (ask : A) (reply : R) (w : View O I) : Type 0 where
     pub before : List I
     pub added : Option I
@@ -62,3 +67,4 @@ module _ {O A R I : Type 0} (answers : O → List I → ℕ → A → R → Opti
     pub seen : w.seen ≡ before ++ listed added
     pub made : w.made ≡ v.made ++ placed before added
     pub tags : w.tags ≡ v.tags
+    pub turn : w.turns ≡ v.turns + 1

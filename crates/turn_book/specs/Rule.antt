@@ -1,6 +1,6 @@
 -- The rule of a turn, which holds between any two steps of its threads, and what each step shows the thread that makes it.
 -- The word held is 1 while a pass has the turn, and the word front is the length of the history. The slot has the book, except while a pass has read the front in its turn.
-use Rattle.std.specs.Prelude.{◌≡◌, ◌≢◌, ℕ, zero, suc, ◌<◌, ◌≤◌, true, false, List, [], ◌∷◌, ◌++◌, length, Option, Some}
+use Rattle.std.specs.Prelude.{◌≡◌, ◌≢◌, ℕ, zero, suc, ◌+◌, ◌<◌, ◌≤◌, true, false, List, [], ◌∷◌, ◌++◌, length, Option, Some}
 use mathlib.Core.Option.{some}
 use mathlib.Core.List.{IsPrefix}
 use lib.ListN.{get_elem?}
@@ -86,15 +86,15 @@ module _ {B O I : Type 0} (opening : B → O) (journal : B → List I) (legal : 
     pub covered : (k : ℕ) → length (journal key) ≤ k → k < length log → HasPlace s.views (owner k) k
     pub naming : NamesRule s.views
 
--- The turn is taken: where held was 0, the pass has it; else nothing changes.
+-- The turn is taken: where held was 0, the pass has it, and that is counted; else nothing changes.
 abbrev pub takes_turn : {S O I : Type 0} → Step S → Me S (View O I) → ℕ → Me S (View O I) → Type 0
-takes_turn st m r n = (r ≡ 0 → n ≡ (view m.0.from true false m.0.seen m.0.made m.0.tags, m.1)) × (r ≢ 0 → n ≡ m)
+takes_turn st m r n = (r ≡ 0 → n ≡ (view m.0.from true false m.0.seen m.0.made m.0.tags (m.0.turns + 1), m.1)) × (r ≢ 0 → n ≡ m)
 
 module _ {B O I : Type 0} (opening : B → O) (journal : B → List I) (legal : O → List I → Type 0) where
   -- The front is read under the turn: the book of the slot is the pass's to take out, and its journal, which begins with all that was seen, is seen.
   pub record IsReading (m : Me (Option B) (View O I)) (r : ℕ) (n : Me (Option B) (View O I)) : Type 0 where
     pub book : B
-    pub after : n ≡ (view m.0.from true true (journal book) m.0.made m.0.tags, (0, Some book) ∷ m.1)
+    pub after : n ≡ (view m.0.from true true (journal book) m.0.made m.0.tags m.0.turns, (0, Some book) ∷ m.1)
     pub count : length (journal book) ≡ r
     pub from : m.0.from ≡ Some (opening book)
     pub seen : IsPrefix m.0.seen (journal book)
@@ -105,11 +105,11 @@ module _ {B O I : Type 0} (opening : B → O) (journal : B → List I) (legal : 
 
 -- An entry is counted: it comes after what was seen, and its place is made.
 abbrev pub counts_entry : {S O I : Type 0} → List I → Step S → Me S (View O I) → ℕ → Me S (View O I) → Type 0
-counts_entry added st m r n = n ≡ (view m.0.from true true (m.0.seen ++ added) (m.0.made ++ length m.0.seen ∷ []) m.0.tags, m.1)
+counts_entry added st m r n = n ≡ (view m.0.from true true (m.0.seen ++ added) (m.0.made ++ length m.0.seen ∷ []) m.0.tags m.0.turns, m.1)
 
 -- The turn is given back.
 abbrev pub gives_turn : {S O I : Type 0} → Step S → Me S (View O I) → ℕ → Me S (View O I) → Type 0
-gives_turn st m r n = (n ≡ (view m.0.from false false m.0.seen m.0.made m.0.tags, rest m.1)) × IsSound n.0
+gives_turn st m r n = (n ≡ (view m.0.from false false m.0.seen m.0.made m.0.tags m.0.turns, rest m.1)) × IsSound n.0
 
 module _ {O I : Type 0} (legal : O → List I → Type 0) where
   -- Nothing changes, and a pass learns what the rule says of it, and of the two passes of its last join.

@@ -12,7 +12,7 @@ IsSeatOf opening t s = (s.table_id ≡ t.table.shared.table_id) × (s.me.0.from 
 
 -- the seat has neither the turn nor the book
 abbrev pub IsAtRest : {S O I : Type 0} → Me S (View O I) → Type 0
-IsAtRest m = m ≡ (view m.0.from false false m.0.seen m.0.made m.0.tags, [])
+IsAtRest m = m ≡ (view m.0.from false false m.0.seen m.0.made m.0.tags m.0.turns, [])
 
 -- a step leaves which seat it is
 abbrev pub IsSameSeat : {S V : Type 0} → Seat S V → Seat S V → Type 0

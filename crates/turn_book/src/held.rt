@@ -1,6 +1,6 @@
 //! The steps of a call, from taking the turn to giving it back.
 
-ghost use Rattle.std.specs.Prelude.{◌≡◌, ◌≢◌, ℕ, ◌≤◌, ◌++◌, ◌∷◌, [], length, false, true, Some, None, Option, IfOk, IfErr, drop};
+ghost use Rattle.std.specs.Prelude.{◌≡◌, ◌≢◌, ℕ, ◌+◌, ◌≤◌, ◌++◌, ◌∷◌, [], length, false, true, Some, None, Option, IfOk, IfErr, drop};
 ghost use mathlib.Core.List.{IsPrefix};
 ghost use Rattle.turn_book.specs.Histories.{IsLegal, listed, placed};
 ghost use Rattle.turn_book.specs.Knowing.{view, IsSound};
@@ -26,7 +26,7 @@ impl<B: SharedBook> Turn<B> {
         requires live { seat.old.me.0.from ≢ None }
         requires rests { IsAtRest seat.old.me }
         ensures same { IsSameSeat seat.old seat.new }
-        ensures took { seat.new.me ≡ (view seat.old.me.0.from true false seat.old.me.0.seen seat.old.me.0.made seat.old.me.0.tags, []) }
+        ensures took { seat.new.me ≡ (view seat.old.me.0.from true false seat.old.me.0.seen seat.old.me.0.made seat.old.me.0.tags (seat.old.me.0.turns + 1), []) }
     {
         for _ in rt.forever() {
             if self.table.shared.compare_exchange::<Take>(seat, 0, 0, 1) == 0 {
@@ -41,9 +41,9 @@ impl<B: SharedBook> Turn<B> {
     fn begin(&self, seat: &mut Seat<Option<B>, View<B::Opening, B::Item>>) -> B
         requires table { seat.old.table_id ≡ self.now.table.shared.table_id }
         requires live { seat.old.me.0.from ≢ None }
-        requires took { seat.old.me ≡ (view seat.old.me.0.from true false seat.old.me.0.seen seat.old.me.0.made seat.old.me.0.tags, []) }
+        requires took { seat.old.me ≡ (view seat.old.me.0.from true false seat.old.me.0.seen seat.old.me.0.made seat.old.me.0.tags seat.old.me.0.turns, []) }
         ensures same { IsSameSeat seat.old seat.new }
-        ensures seat { seat.new.me ≡ (view seat.old.me.0.from true true (B.journal result) seat.old.me.0.made seat.old.me.0.tags, (0, None) ∷ []) }
+        ensures seat { seat.new.me ≡ (view seat.old.me.0.from true true (B.journal result) seat.old.me.0.made seat.old.me.0.tags seat.old.me.0.turns, (0, None) ∷ []) }
         ensures from { seat.old.me.0.from ≡ Some (B.opening result) }
         ensures seen { IsPrefix seat.old.me.0.seen (B.journal result) }
     {
@@ -59,10 +59,10 @@ impl<B: SharedBook> Turn<B> {
     )
         requires table { seat.old.table_id ≡ self.now.table.shared.table_id }
         requires from { seat.old.me.0.from ≡ Some (B.opening book.now) }
-        requires took { seat.old.me ≡ (view seat.old.me.0.from true true seat.old.me.0.seen seat.old.me.0.made seat.old.me.0.tags, (0, None) ∷ []) }
+        requires took { seat.old.me ≡ (view seat.old.me.0.from true true seat.old.me.0.seen seat.old.me.0.made seat.old.me.0.tags seat.old.me.0.turns, (0, None) ∷ []) }
         requires added { (B.journal book.now ≡ seat.old.me.0.seen ++ J.items) × (length J.items ≡ 1) }
         ensures same { IsSameSeat seat.old seat.new }
-        ensures seat { seat.new.me ≡ (view seat.old.me.0.from true true (B.journal book.now) (seat.old.me.0.made ++ length seat.old.me.0.seen ∷ []) seat.old.me.0.tags, (0, None) ∷ []) }
+        ensures seat { seat.new.me ≡ (view seat.old.me.0.from true true (B.journal book.now) (seat.old.me.0.made ++ length seat.old.me.0.seen ∷ []) seat.old.me.0.tags seat.old.me.0.turns, (0, None) ∷ []) }
     {
         let _entries = book.entries();
         self.table.shared.fetch_add::<Count<J>>(seat, 1, 1);
@@ -72,9 +72,9 @@ impl<B: SharedBook> Turn<B> {
     fn end(&self, seat: &mut Seat<Option<B>, View<B::Opening, B::Item>>, book: B)
         requires table { seat.old.table_id ≡ self.now.table.shared.table_id }
         requires from { seat.old.me.0.from ≡ Some (B.opening book) }
-        requires took { seat.old.me ≡ (view seat.old.me.0.from true true (B.journal book) seat.old.me.0.made seat.old.me.0.tags, (0, None) ∷ []) }
+        requires took { seat.old.me ≡ (view seat.old.me.0.from true true (B.journal book) seat.old.me.0.made seat.old.me.0.tags seat.old.me.0.turns, (0, None) ∷ []) }
         ensures same { IsSameSeat seat.old seat.new }
-        ensures seat { seat.new.me ≡ (view seat.old.me.0.from false false (B.journal book) seat.old.me.0.made seat.old.me.0.tags, []) }
+        ensures seat { seat.new.me ≡ (view seat.old.me.0.from false false (B.journal book) seat.old.me.0.made seat.old.me.0.tags seat.old.me.0.turns, []) }
         ensures sound { IsSound seat.new.me.0 }
     {
         let nothing = self.table.shared.exchange(seat, 0, Some(book));
@@ -91,13 +91,13 @@ impl<B: SharedBook> Turn<B> {
     ) -> u32
         requires table { seat.old.table_id ≡ self.now.table.shared.table_id }
         requires from { seat.old.me.0.from ≡ Some (B.opening book) }
-        requires took { seat.old.me ≡ (view seat.old.me.0.from true true seat.old.me.0.seen seat.old.me.0.made seat.old.me.0.tags, (0, None) ∷ []) }
+        requires took { seat.old.me ≡ (view seat.old.me.0.from true true seat.old.me.0.seen seat.old.me.0.made seat.old.me.0.tags seat.old.me.0.turns, (0, None) ∷ []) }
         requires grown { (before ≡ length seat.old.me.0.seen) × ((added : Option B.Item) × (B.journal book ≡ seat.old.me.0.seen ++ listed added)) }
         ensures same { IsSameSeat seat.old seat.new }
-        ensures rests { seat.new.me ≡ (view seat.old.me.0.from false false (B.journal book) seat.new.me.0.made seat.old.me.0.tags, []) }
+        ensures rests { seat.new.me ≡ (view seat.old.me.0.from false false (B.journal book) seat.new.me.0.made seat.old.me.0.tags seat.old.me.0.turns, []) }
         ensures count { result ≡ length (B.journal book) }
         ensures seat { (added : Option B.Item) → B.journal book ≡ seat.old.me.0.seen ++ listed added
-            → seat.new.me ≡ (view seat.old.me.0.from false false (B.journal book) (seat.old.me.0.made ++ placed seat.old.me.0.seen added) seat.old.me.0.tags, []) }
+            → seat.new.me ≡ (view seat.old.me.0.from false false (B.journal book) (seat.old.me.0.made ++ placed seat.old.me.0.seen added) seat.old.me.0.tags seat.old.me.0.turns, []) }
         ensures legal { IsLegal B.may_ask B.answers (B.opening book) (B.journal book) }
         ensures sound { IsSound seat.new.me.0 }
     {

@@ -15,6 +15,8 @@ pub struct View<O, I> {
     /// The places of the entries that its calls added, ascending.
     pub made: LinkedList<u64>,
     pub tags: Tags<I>,
+    /// How often it had the turn, with the passes that were joined into it.
+    pub turns: u64,
 }
 
 /// How a pass is named, and what it took in last.

@@ -9,4 +9,4 @@ store-requires g c =
     let x = c.exchange-nothing.ensures in
     let book = c.args.book in
     let me = x.3 ∙ ap (λ m. (m.0, (0, Some book) ∷ rest m.1)) c.requires.took in
-    (x.0 ∙ c.requires.table, search rules, gives_as _ _ _ _ _ _ _ book (me ∙ ap (λ m. (view m.0.from true true m.0.seen m.0.made m.0.tags, (0, Some book) ∷ [])) (sym me)) (ap (λ m. m.0.from) me ∙ c.requires.from) (sym (ap (λ m. m.0.seen) me)))
+    (x.0 ∙ c.requires.table, search rules, gives_as _ _ _ _ _ _ _ book (me ∙ ap (λ m. (view m.0.from true true m.0.seen m.0.made m.0.tags m.0.turns, (0, Some book) ∷ [])) (sym me)) (ap (λ m. m.0.from) me ∙ c.requires.from) (sym (ap (λ m. m.0.seen) me)))

@@ -9,7 +9,7 @@ pub returns-clause-of : goal.returns-clause-of
 returns-clause-of g c = (c.finish-count.ensures.same.0 ∙ c.begin-book.ensures.same.0 ∙ c.take.ensures.same.0 ∙ c.requires.of.0, ap (λ m. m.0.from) c.finish-count.ensures.rests ∙ ap (λ m. m.0.from) c.begin-book.ensures.seat ∙ ap (λ m. m.0.from) c.take.ensures.took ∙ c.requires.of.1)
 
 pub returns-clause-rests : goal.returns-clause-rests
-returns-clause-rests g c = at_rest _ _ _ _ _ c.finish-count.ensures.rests
+returns-clause-rests g c = at_rest _ _ _ _ _ _ c.finish-count.ensures.rests
 
 pub returns-clause-count : goal.returns-clause-count
 returns-clause-count g c = c.finish-count.ensures.count ∙ sym (ap (λ m. length m.0.seen) c.finish-count.ensures.rests)

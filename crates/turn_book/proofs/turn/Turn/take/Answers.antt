@@ -11,5 +11,5 @@ compare_exchange-requires g c =
       search rules,
       takes_as _ _ _ _ _ seat.id seat.me
           (subst (λ (m : _). IsLive m.0) (sym i.2) c.requires.live)
-          (i.2 ∙ c.requires.rests ∙ ap (λ m. (view m.0.from false false m.0.seen m.0.made m.0.tags, [])) (sym i.2)),
+          (i.2 ∙ c.requires.rests ∙ ap (λ m. (view m.0.from false false m.0.seen m.0.made m.0.tags m.0.turns, [])) (sym i.2)),
     )
