@@ -30,12 +30,13 @@ use Rattle.desk_core.specs.Taken.{IsTaken}
 abbrev pub settled_at : Situation → PlanRows → Evaluated
 settled_at I P = record { inst = I; rows = P; past = [] }
 
-pub kept_opening : (I : Situation) → I ≡ fresh_day I.parts → IsBook (settled_at I (schedule I)) 0 0 []
+pub kept_opening : (I : Situation) → I ≡ fresh_day I.parts → IsBook (settled_at I (schedule I)) 0 0 0 []
 unfolding opening
 kept_opening I fresh = record {
   settled = refl;
   legal = legal-nil (opening (undisturbed I));
   reached = rw (sym fresh) refl;
+  all = refl;
   changed = refl;
   since = refl;
   within = omega arith;
@@ -93,21 +94,22 @@ stands_move : (E : Evaluated) (h : List Entry) (caller : ℕ) (m : Move) (given 
 unfolding entry_at
 stands_move E h caller m given reached few fits is = stands E h caller (event.Move m) given reached (lt-ltb (length h) proposal_limit few) fits is
 
-pub kept_refused : (E : Evaluated) (counted accepted : ℕ) (h : List Entry) (caller : ℕ) (m : Move) (given : Answer) → IsBook E counted accepted h → length h < proposal_limit → Fits E.inst m → answer (state_in E) (event.Move m) ≡ given → is_accepted given ≡ false → IsBook E counted accepted (h ++ entry_of_move caller m given ∷ [])
-kept_refused E counted accepted h caller m given kept few fits is refused =
+pub kept_refused : (E : Evaluated) (entries counted accepted : ℕ) (h : List Entry) (caller : ℕ) (m : Move) (given : Answer) → IsBook E entries counted accepted h → length h < proposal_limit → Fits E.inst m → answer (state_in E) (event.Move m) ≡ given → is_accepted given ≡ false → IsBook E (entries + 1) counted accepted (h ++ entry_of_move caller m given ∷ [])
+kept_refused E entries counted accepted h caller m given kept few fits is refused =
     let entry = entry_of_move caller m given in
     record {
       settled = kept.settled;
       legal = legal-append (opening (undisturbed E.inst)) h entry kept.legal (stands_move E h caller m given kept.reached few fits is);
       reached = state-append (opening (undisturbed E.inst)) h (entry ∷ []) ∙ rw kept.reached (after-unchanged (state_in E) (event.Move m) (ap is_accepted is ∙ refused));
+      all = ap (λ n. n + 1) kept.all ∙ sym (length-append h (entry ∷ []));
       changed = kept.changed ∙ sym (changes-push h entry false refused ∙ (let none : changes h + 0 ≡ changes h = omega arith in none));
       since = kept.since ∙ sym (since-push h entry false refl refused ∙ (let none : accepted_since_batch h + 0 ≡ accepted_since_batch h = omega arith in none));
       within = kept.within;
       few = omega (arith, few, length-append h (entry ∷ []));
     }
 
-pub kept_moved : (E : Evaluated) (counted accepted : ℕ) (h : List Entry) (caller : ℕ) (m : Move) (given : Grains) → IsBook E counted accepted h → length h < proposal_limit → Fits E.inst m → answer (state_in E) (event.Move m) ≡ Accepted given → IsBook (settled_at E.inst (after_move E.inst E.rows m)) (counted + 1) (accepted + 1) (h ++ entry_of_move caller m (Accepted given) ∷ [])
-kept_moved E counted accepted h caller m given kept few fits is =
+pub kept_moved : (E : Evaluated) (entries counted accepted : ℕ) (h : List Entry) (caller : ℕ) (m : Move) (given : Grains) → IsBook E entries counted accepted h → length h < proposal_limit → Fits E.inst m → answer (state_in E) (event.Move m) ≡ Accepted given → IsBook (settled_at E.inst (after_move E.inst E.rows m)) (entries + 1) (counted + 1) (accepted + 1) (h ++ entry_of_move caller m (Accepted given) ∷ [])
+kept_moved E entries counted accepted h caller m given kept few fits is =
     let S = state_in E in
     let entry = entry_of_move caller m (Accepted given) in
     let cause = accepted-cause S m given is in
@@ -119,6 +121,7 @@ kept_moved E counted accepted h caller m given kept few fits is =
       settled = refl;
       legal = legal-append (opening (undisturbed E.inst)) h entry kept.legal (stands_move E h caller m (Accepted given) kept.reached few fits is);
       reached = state-append (opening (undisturbed E.inst)) h (entry ∷ []) ∙ here ∙ sym there;
+      all = ap (λ n. n + 1) kept.all ∙ sym (length-append h (entry ∷ []));
       changed = ap (λ n. n + 1) kept.changed ∙ sym (changes-push h entry true refl);
       since = ap (λ n. n + 1) kept.since ∙ sym (since-push h entry true refl refl);
       within = omega (arith, grown);
@@ -133,8 +136,8 @@ stands_batch : (E : Evaluated) (h : List Entry) (caller : ℕ) (B : Batch) (give
 unfolding entry_at
 stands_batch E h caller B given reached few batch is = stands E h caller (event.Batch B) given reached (lt-ltb (length h) batch_limit few) batch is
 
-pub kept_taken : (E F : Evaluated) (counted accepted : ℕ) (h : List Entry) (caller : ℕ) (B : Batch) (given : Answer) → IsBook E counted accepted h → length h < batch_limit → IsBatch E.inst.parts B → IsTaken E B F given → IsBook F (counted + 1) 0 (h ++ entry_of_batch caller B given ∷ [])
-kept_taken E F counted accepted h caller B given kept few batch taken =
+pub kept_taken : (E F : Evaluated) (entries counted accepted : ℕ) (h : List Entry) (caller : ℕ) (B : Batch) (given : Answer) → IsBook E entries counted accepted h → length h < batch_limit → IsBatch E.inst.parts B → IsTaken E B F given → IsBook F (entries + 1) (counted + 1) 0 (h ++ entry_of_batch caller B given ∷ [])
+kept_taken E F entries counted accepted h caller B given kept few batch taken =
     let entry = entry_of_batch caller B given in
     let same : undisturbed E.inst ≡ undisturbed F.inst = sym (ap undisturbed taken.inst) in
     let legal = legal-append (opening (undisturbed E.inst)) h entry kept.legal (stands_batch E h caller B given kept.reached few batch taken.answered) in
@@ -144,6 +147,7 @@ kept_taken E F counted accepted h caller B given kept few batch taken =
       settled = taken.settled;
       legal = subst (λ (I : Situation). IsLegal (opening I) (h ++ entry ∷ [])) same legal;
       reached = subst (λ (I : Situation). state (opening I) (h ++ entry ∷ []) ≡ state_in F) same reached;
+      all = ap (λ n. n + 1) kept.all ∙ sym (length-append h (entry ∷ []));
       changed = ap (λ n. n + 1) kept.changed ∙ sym (changes-push h entry true refl);
       since = sym (since-batch h entry refl);
       within = omega arith;

@@ -11,11 +11,12 @@ use Rattle.desk_core.specs.Judged.{state_in}
 abbrev pub undisturbed : Situation → Situation
 undisturbed I = fresh_day I.parts
 
--- the plan in the evaluator and both counts are those of the journal h, and no change waits to be taken back
-pub record IsBook (E : Evaluated) (counted accepted : ℕ) (h : List Entry) : Type 0 where
+-- the plan in the evaluator and the three counts are those of the journal h, and no change waits to be taken back
+pub record IsBook (E : Evaluated) (entries counted accepted : ℕ) (h : List Entry) : Type 0 where
   pub settled : E.past ≡ []
   pub legal : IsLegal (opening (undisturbed E.inst)) h
   pub reached : state (opening (undisturbed E.inst)) h ≡ state_in E
+  pub all : entries ≡ length h
   pub changed : counted ≡ changes h
   pub since : accepted ≡ accepted_since_batch h
   pub within : accepted ≤ counted

@@ -1,13 +1,13 @@
-pub use Rattle.desk_model.specs.Fallback
 pub use Rattle.plan_moves.specs.Fits
 pub use Rattle.desk_model.specs.States
 pub use Rattle.desk_model.specs.Histories
 pub use Rattle.desk_model.specs.Promises
 pub use Rattle.desk_eval.specs.Evaluated
-pub mod Stops
 pub mod Recorded
 pub mod BookParts
 pub mod Judged
+pub mod Desks
+pub mod Brought
 pub mod Taken
 pub mod Turned
 pub mod Sights

@@ -1,7 +1,8 @@
 //! The book.
 
-ghost use Rattle.std.specs.Prelude.{◌≡◌, ◌≤◌, [], length, drop, nat_lt, IfOk, OnOk, OnErr};
+ghost use Rattle.std.specs.Prelude.{◌≡◌, ◌≤◌, [], ◌||◌, length, drop, nat_le, IfOk, OnOk, OnErr};
 
+use crate::desk::{BATCH_LIMIT, Desk, PROPOSAL_LIMIT};
 use crate::judged::{Judged, judge, publish};
 use crate::search::Search;
 use crate::taken::{Taken, take_in};
@@ -12,24 +13,14 @@ use plan_moves::Move;
 use std::alloc::Global;
 use std::marker::Model;
 
-/// A journal of fewer entries than this takes a proposal.
-const PROPOSAL_LIMIT: usize = 900_000;
-
-/// A journal of fewer entries than this takes a batch.
-const BATCH_LIMIT: usize = 1_000_000;
-
 /// The desk's book: the state, and the journal of what arrived, what was proposed and what was
 /// answered. Contracts see it as the instance that it was opened with and its journal: its state is
 /// that of its journal.
 #[derive(Drop)]
 pub struct Book {
-    /// The instance and the plan. Between two calls no change of the plan waits to be taken back.
-    eval: Evaluator,
+    /// The state after the whole journal.
+    desk: Desk,
     journal: Vec<Entry>,
-    /// How many entries of the journal changed the state.
-    changes: u32,
-    /// How many proposals were accepted since the last batch.
-    accepted: u32,
 }
 
 impl Model for Book {
@@ -38,9 +29,9 @@ impl Model for Book {
 
     ghost Value = { Recorded };
 
-    ghost view = { λ b. record { opening = undisturbed b.eval.inst; journal = b.journal.items } };
+    ghost view = { λ b. record { opening = undisturbed b.desk.eval.inst; journal = b.journal.items } };
 
-    ghost invariant = { λ b. IsBook b.eval b.changes b.accepted b.journal.items };
+    ghost invariant = { λ b. IsBook b.desk.eval b.desk.entries b.desk.changes b.desk.accepted b.journal.items };
 }
 
 impl Book {
@@ -53,6 +44,7 @@ impl Book {
     ghost use Rattle.desk_model.specs.Histories.{accepted_since_batch, changes, proposal_limit, IsLegal};
     ghost use Rattle.desk_model.specs.Promises.{cost_of, KeepsPromises};
     ghost use Rattle.desk_core.specs.Recorded.{Recorded, state_of, reply, with_entry};
+    ghost use Rattle.desk_core.specs.Desks.{StandsAt};
 
     /// The book of a day before any batch, which has no orders and whose present moment is the window's
     /// start: its plan is the schedule, and nothing is journalled yet. The only error is out of memory.
@@ -63,10 +55,13 @@ impl Book {
         let plan = inst.schedule(alloc)?;
         let eval = Evaluator::of_plan(alloc, inst, plan)?;
         Ok(Book {
-            eval,
+            desk: Desk {
+                eval,
+                entries: 0,
+                changes: 0,
+                accepted: 0,
+            },
             journal: Vec::new(alloc),
-            changes: 0,
-            accepted: 0,
         })
     }
 
@@ -88,15 +83,16 @@ impl Book {
         }
         self.journal.reserve(1)?;
         let event = Event::Batch(batch.copy(alloc)?);
-        let Taken { eval, answer } = take_in(alloc, &self.eval, batch)?;
+        let Taken { eval, answer } = take_in(alloc, &self.desk.eval, batch)?;
         self.journal.push(Entry {
             caller,
             event,
             answer,
         })?;
-        self.eval = eval;
-        self.changes += 1;
-        self.accepted = 0;
+        self.desk.eval = eval;
+        self.desk.entries += 1;
+        self.desk.changes += 1;
+        self.desk.accepted = 0;
         Ok(answer)
     }
 
@@ -117,7 +113,7 @@ impl Book {
         }
         self.journal.reserve(1)?;
         let event = Event::Move(m.copy(alloc)?);
-        match judge(alloc, &mut self.eval, m)? {
+        match judge(alloc, &mut self.desk.eval, m)? {
             Judged::Moved {
                 undo: applied,
                 cost,
@@ -129,12 +125,13 @@ impl Book {
                     answer,
                 };
                 if let Err(error) = self.journal.push(entry) {
-                    undo(&mut self.eval, applied);
+                    undo(&mut self.desk.eval, applied);
                     return Err(NoMem::from(error));
                 }
-                publish(&mut self.eval, applied);
-                self.changes += 1;
-                self.accepted += 1;
+                publish(&mut self.desk.eval, applied);
+                self.desk.entries += 1;
+                self.desk.changes += 1;
+                self.desk.accepted += 1;
                 Ok(answer)
             }
             Judged::Refused(answer) => {
@@ -143,6 +140,7 @@ impl Book {
                     event,
                     answer,
                 })?;
+                self.desk.entries += 1;
                 Ok(answer)
             }
         }
@@ -157,39 +155,40 @@ impl Book {
         self.journal.len() as u32
     }
 
-    /// Whether the journal takes a proposal: it has fewer than 900,000 entries.
-    pub fn takes_proposals(&self) -> bool
-        ensures { result ≡ nat_lt (length self.now.journal) proposal_limit }
-    {
-        self.journal.len() < PROPOSAL_LIMIT
-    }
-
     /// How many entries changed the state: all batches, and the proposals that were accepted.
     pub fn changes(&self) -> u32
         ensures { result ≡ changes self.now.journal }
     {
-        self.changes
+        self.desk.changes
     }
 
-    /// How many proposals were accepted since the last batch.
-    pub fn accepted(&self) -> u32
-        ensures { result ≡ accepted_since_batch self.now.journal }
+    /// Whether no proposal more is made: so many were accepted since the last batch, or the journal takes no more.
+    pub fn is_spent(&self, most: u32) -> bool
+        ensures { result ≡ nat_le most (accepted_since_batch self.now.journal) || nat_le proposal_limit (length self.now.journal) }
     {
-        self.accepted
+        self.desk.is_spent(most)
     }
 
     /// The first item that the rows break. There is a plan exactly where there is none.
     pub fn broken(&self) -> Option<Broken>
         ensures { result ≡ (state_of self.now).broken }
     {
-        self.eval.least_broken()
+        self.desk.broken()
     }
 
     /// What the plan costs, also where there is none to publish.
     pub fn cost(&self) -> Grains
         ensures { result ≡ grains (cost_of (state_of self.now)) }
     {
-        self.eval.cost()
+        self.desk.eval.cost()
+    }
+
+    /// The state after the whole journal.
+    pub fn desk(&self) -> &Desk
+        ensures stands { StandsAt self.now.opening result.now self.now.journal }
+        ensures all { result.now.entries ≡ length self.now.journal }
+    {
+        &self.desk
     }
 
     /// The evaluator, in which the plan stands. Its past is empty.
@@ -198,7 +197,7 @@ impl Book {
         ensures inst { result.now.inst ≡ (state_of self.now).inst }
         ensures past { result.now.past ≡ [] }
     {
-        &self.eval
+        &self.desk.eval
     }
 
     /// What a search finds at the plan, which serves the book's instance. It works on the book's own evaluator, of which no
@@ -213,7 +212,7 @@ impl Book {
         ensures day { S.serves search.new (state_of self.old).inst }
         ensures same { self.new ≡ self.old }
     {
-        search.search(alloc, &mut self.eval)
+        search.search(alloc, &mut self.desk.eval)
     }
 
     /// The instance as it is disrupted: the one that the book was opened with, and all batches added to
@@ -222,7 +221,7 @@ impl Book {
         ensures now { result.now ≡ (state_of self.now).inst }
         ensures parts { result.now.parts ≡ self.now.opening.parts }
     {
-        self.eval.instance()
+        self.desk.eval.instance()
     }
 
     /// The journal: who asked, what arrived or was proposed, and what the answer was. Each answer is that of the state

@@ -1,22 +1,4 @@
-//! The book of a day: its fallback plans, its history, and the board from which others read it.
-//!
-//! # Fallbacks
-//!
-//! What the desk falls back on when a disruption arrives.
-//!
-//!     match fallback(alloc, &inst, plan, pages)? {    // the instance with the batch that disrupts it
-//!         Fallback::Chosen { which, plan } => ..,     // a plan that breaks no rule
-//!         Fallback::NoPlan { broken, plan } => ..,    // no plan: rows, and the first item that they break
-//!     }
-//!
-//! It tries the plan as it stands, then a Shift, then Ground. A Shift gives fixed legs the rows that they
-//! are due, cancels an aircraft's movable legs from the first on that is called off, pushes every aircraft
-//! and tidies. Ground cancels every movable leg and tidies. The plan is handed in, and a Shift is made in it; its
-//! pages are lent, and copied only for Ground.
-//!
-//! Proved: the answer is `fallback` of desk_model, and its rows are a valid plan. The legs are walked once
-//! to settle and to cancel; Push is asked of hour_counts, Tidy of plan_reads, and `full_check` judges. The types
-//! `Fallback` and `Which` are those of desk_model.
+//! The book of a day: its history, and the board from which others read it.
 //!
 //! # The book
 //!
@@ -28,12 +10,13 @@
 //!     let found = book.search(alloc, &mut search)?;      // what a search finds at the plan, which stays
 //!     for entry in book.journal() { .. }                 // who asked, what, and the answer
 //!     let plan = book.eval().plan();                     // the plan as it stands
-//!     follow(alloc, &mut eval, &mut broken, &entry)?;    // a copy of the state follows the journal
+//!     let mut desk = book.desk().copy(alloc)?;           // the state, which follows the journal by itself
+//!     desk.follow(alloc, &entry)?;
 //!
 //! The plan stands in an evaluator (`desk_eval`). A move is applied to it and judged by
 //! what the evaluator then says that the plan breaks and costs; a move that is refused is taken back,
 //! which takes no memory. A batch is added to a copy of the instance by the plan that stands, which
-//! decides what has left by the batch's moment, and what the desk falls back on (`fallback`) is
+//! decides what has left by the batch's moment, and what the desk falls back on (`fallback` of plan_fallbacks) is
 //! made before anything changes. Contracts see a book as the day that it was opened with and its
 //! journal, since its state is that of its journal. Proved: each answer is that of the definitions in
 //! `desk_model`, each call adds one entry or, where the journal is full, none; where memory runs out,
@@ -61,30 +44,25 @@
 mod board_telling;
 mod book;
 mod calls;
-mod cancel;
-mod choice;
-mod firsts;
+mod desk;
 mod followed;
 mod judged;
 mod lines;
-mod make;
+mod news;
 mod posted;
-mod pushes;
 mod search;
-mod settle;
 mod sight;
 mod taken;
 mod telling;
-mod tidy;
 mod turned;
 
 pub use board_telling::BoardTelling;
 pub use book::Book;
-pub use choice::fallback;
+pub use desk::{BATCH_LIMIT, Desk, PROPOSAL_LIMIT, is_batch};
 pub use desk_eval::Evaluator;
 pub use desk_model::{Answer, Batch, Broken, Entry, Event, Grains, Move, Which};
-pub use followed::follow;
 pub use lines::{MOST_SIGHTS, seen_lines};
+pub use news::News;
 pub use posted::Posted;
 pub use search::Search;
 pub use sight::Sight;

@@ -4,10 +4,10 @@ ghost use Rattle.std.specs.Prelude.{◌≡◌, IfOk};
 ghost use Rattle.desk_data.specs.Valid.{IsBatch};
 ghost use Rattle.desk_core.specs.Taken.{IsTaken};
 
-use crate::fallback;
 use desk_data::{Batch, NoMem};
 use desk_eval::Evaluator;
 use desk_model::{Answer, Fallback};
+use plan_fallbacks::fallback;
 use std::alloc::Global;
 
 /// What the desk falls back on when a batch is taken.

@@ -1,20 +1,24 @@
 //! The book as turns serve it, and what holds of their passes.
 
 ghost use Rattle.std.specs.Prelude.{◌≡◌, ℕ, List as Items};
+ghost use Rattle.std.specs.List.{list_any};
 ghost use Rattle.desk_data.specs.Situation.{Situation};
 ghost use Rattle.desk_model.specs.declared.answer.Answer.{Answer as Given};
 ghost use Rattle.desk_model.specs.declared.answer.Entry.{Entry as Recorded};
 ghost use Rattle.desk_model.specs.declared.answer.Event.{Event as Asked};
 ghost use Rattle.desk_model.specs.States.{opening};
 ghost use Rattle.desk_model.specs.Histories as histories;
-ghost use Rattle.desk_model.specs.Histories.{IsAskable};
+ghost use Rattle.desk_model.specs.Histories.{IsAskable, is_batch};
 ghost use Rattle.desk_model.specs.Promises.{KeepsPromises};
 ghost use Rattle.turn_book.specs.declared.view.View.{View as Pass};
 ghost use Rattle.turn_book.specs.Histories as turns;
 ghost use Rattle.turn_book.specs.Passes.{Called};
 ghost use Rattle.desk_core.specs.Turned.{GetsAnswer, Replies, tells_entry};
+ghost use Rattle.desk_core.specs.Brought.{brings};
 
 use crate::book::Book;
+use crate::desk::is_batch;
+use crate::news::News;
 use desk_data::{Instance, NoMem};
 use desk_model::{Answer, Entry, Event};
 use std::alloc::Global;
@@ -31,6 +35,9 @@ impl SharedBook for Book {
 
     type Item = Entry;
 
+    /// The entries that are new, or where a batch is among them, the state.
+    type News = News;
+
     ghost opening = { λ b. b.opening };
 
     ghost journal = { λ b. b.journal };
@@ -40,6 +47,8 @@ impl SharedBook for Book {
     ghost answers = { Replies };
 
     ghost tells = { tells_entry };
+
+    ghost brings = { brings };
 
     fn entries(&self) -> u32 {
         Book::entries(self)
@@ -55,6 +64,21 @@ impl SharedBook for Book {
     fn tail(&self, alloc: Global, n: u32) -> Result<Vec<Entry>, NoMem> {
         self.since(alloc, n)
     }
+
+    fn news(&self, alloc: Global, n: u32) -> Result<News, NoMem> {
+        if has_batch(&self.journal()[n as usize..]) {
+            Ok(News::State(self.desk().copy(alloc)?))
+        } else {
+            Ok(News::Entries(self.since(alloc, n)?))
+        }
+    }
+}
+
+/// Whether one of these entries is a batch.
+fn has_batch(entries: &[Entry]) -> bool
+    ensures { result ≡ list_any (λ entry. is_batch entry.event) entries.now }
+{
+    entries.iter().any(|entry| is_batch(&entry.event))
 }
 
 /// What a pass has seen is a legal history of the desk from the opening of the book's instance, and

@@ -25,7 +25,7 @@ use Rattle.desk_pool.specs.Reports.{report_at}
 use Rattle.desk_pool.specs.Rounds.{Knows, IsReady, IsSameShard, HasNoted, HasWorked, place_of}
 use Rattle.desk_pool.specs.Workers.{DeskTurn, day_of, trail_of, CanSearch, AreAllShards, CanAllSearch, HasPass, WorksOn, IsSameWorker}
 use Rattle.desk_pool.specs.Laps.{new_items, new_places, GoesOn, SomeNew, HasGained, IsReturned, ReportsOf}
-use Rattle.desk_pool.proofs.Following.{stands_longer}
+use Rattle.desk_core.proofs.DeskLaws.{stands_longer}
 
 -- ---- elements of lists that are written
 
@@ -54,7 +54,7 @@ pub ready_longer : (I : Situation) (s : Searcher) (h g : List Entry) → IsReady
 ready_longer I s h g ready p = record {
   some = ready.some;
   few = ready.few;
-  stands = stands_longer I s.follower h g ready.stands p;
+  stands = stands_longer I s.desk h g ready.stands p;
   finder = ready.finder;
   trail = trail-longer s.number s.shards (opening I) s.trail.items h g p ready.trail;
 }

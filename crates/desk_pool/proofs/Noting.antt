@@ -1,5 +1,5 @@
 -- What several rounds note.
-use Rattle.std.proofs.Common.{◌≡◌, ◌≢◌, ℕ, ◌-◌, ◌≤◌, List, [], ◌∷◌, ◌++◌, length, map, slice_get, sym, ap, ◌∙◌, subst, arith, refl, inl, inr, false, ⊎_elim, ◌⊎◌}
+use Rattle.std.proofs.Common.{◌≡◌, ◌≢◌, ℕ, ◌+◌, ◌-◌, ◌*◌, ◌≤◌, List, [], ◌∷◌, ◌++◌, length, length-append, map, slice_get, sym, ap, ◌∙◌, subst, arith, refl, inl, inr, false, ⊎_elim, ◌⊎◌}
 use Rattle.std.specs.Prelude.{Some, None, Result, Ok, Err}
 use Rattle.std.proofs.lemmas.List.{append-nil, append_assoc, map-append}
 use mathlib.Core.List.{IsPrefix}
@@ -20,26 +20,28 @@ use Rattle.desk_pool.specs.Reports.{report_at}
 use Rattle.desk_pool.proofs.Reporting.{unspent_at}
 use Rattle.desk_pool.specs.Rounds.{Knows, IsSameShard, NotesNone, NotesOne, IsReportedBy, HasRound, HasNoted, HasWorked, place_of}
 
-pub noted_start : (most low : ℕ) (v w : Knows) (old : List Trail) → w.made ≡ v.made → HasNoted most low v w old old
-noted_start most low v w old same = record {
+pub noted_start : (most low : ℕ) (v w : Knows) (old : List Trail) → w.made ≡ v.made → v.turns ≤ w.turns → HasNoted most low v w old old
+noted_start most low v w old same later = record {
   added = [];
   trail = sym (append-nil old);
   made = same ∙ sym (append-nil v.made);
   since = λ i t at. absurd (cc at);
   in_budget = λ i t at. absurd (cc at);
+  turns = omega (arith, later);
 }
 
-noted_same : (most low : ℕ) (v u w : Knows) (old mid new : List Trail) → IsPrefix u.seen w.seen → HasNoted most low v u old mid → NotesNone u w mid new → HasNoted most low v w old new
-noted_same most low v u w old mid new more h none = record {
+noted_same : (most low : ℕ) (v u w : Knows) (old mid new : List Trail) → IsPrefix u.seen w.seen → u.turns ≤ w.turns → HasNoted most low v u old mid → NotesNone u w mid new → HasNoted most low v w old new
+noted_same most low v u w old mid new more later h none = record {
   added = h.added;
   trail = none.trail ∙ h.trail;
   made = none.made ∙ h.made;
   since = h.since;
   in_budget = λ i t at. budget-longer most u.seen w.seen t more (h.in_budget i t at);
+  turns = (let two = h.turns in omega (arith, two, later));
 }
 
-noted_more : (most low : ℕ) (saw : List Entry) (v u w : Knows) (old mid new : List Trail) → low ≤ length saw → IsPrefix u.seen w.seen → IsPrefix saw w.seen → is_spent most saw ≡ false → HasNoted most low v u old mid → NotesOne u w mid new (length saw) → HasNoted most low v w old new
-noted_more most low saw v u w old mid new le more began unspent h one = record {
+noted_more : (most low : ℕ) (saw : List Entry) (v u w : Knows) (old mid new : List Trail) → low ≤ length saw → IsPrefix u.seen w.seen → IsPrefix saw w.seen → u.turns + 2 ≤ w.turns → is_spent most saw ≡ false → HasNoted most low v u old mid → NotesOne u w mid new (length saw) → HasNoted most low v w old new
+noted_more most low saw v u w old mid new le more began later unspent h one = record {
   added = h.added ++ one.item ∷ [];
   trail = one.trail ∙ ap (λ (l : List Trail). l ++ one.item ∷ []) h.trail ∙ append_assoc old h.added (one.item ∷ []);
   made = one.made ∙ ap (λ (l : List ℕ). l ++ one.item.place ∷ []) h.made ∙ append_assoc v.made (map place_of h.added) (one.item.place ∷ []) ∙ ap (λ (l : List ℕ). v.made ++ l) (sym (map-append place_of h.added (one.item ∷ [])));
@@ -51,6 +53,7 @@ noted_more most low saw v u w old mid new le more began unspent h one = record {
       (λ (before : slice_get h.added i ≡ Some t). budget-longer most u.seen w.seen t more (h.in_budget i t before))
       (λ (last : (i ≡ length h.added) × (t ≡ one.item)). subst (IsInBudget most w.seen) (sym last.1) (budget-seen most saw w.seen one.item began one.saw unspent))
       (get-snoc h.added one.item i t at);
+  turns = (let two = h.turns in omega (arith, two, later, length-append h.added (one.item ∷ [])));
 }
 
 -- ---- rounds, one after another
@@ -63,36 +66,43 @@ answers Spent = inr (λ is. cc is)
 answers (NoPlan item) = inr (λ is. cc is)
 
 -- a round that ended with a report
-noted_reported : (most : ℕ) (I : Situation) (s : Searcher) (saw : List Entry) (v u w : Knows) (old mid new : List Trail) (r : Report) → length v.seen ≤ length saw → IsPrefix saw w.seen → IsPrefix u.seen w.seen → HasNoted most (length v.seen) v u old mid → IsReportedBy most I s saw u w mid new r → HasNoted most (length v.seen) v w old new
-noted_reported most I s saw v u w old mid new r le ended more noted told = ⊎_elim
+noted_reported : (most : ℕ) (I : Situation) (s : Searcher) (v u looked w : Knows) (old mid new : List Trail) (r : Report) → length v.seen ≤ length looked.seen → IsPrefix looked.seen w.seen → IsPrefix u.seen w.seen → looked.turns ≡ u.turns + 1 → HasNoted most (length v.seen) v u old mid → IsReportedBy most I s u looked w mid new r → HasNoted most (length v.seen) v w old new
+noted_reported most I s v u looked w old mid new r le ended more turn noted told = ⊎_elim
     (λ (answered : r.end ≡ Answered).
-    let unspent = unspent_at most (s.number - 1) s.shards (opening I) saw (sym (ap (λ (x : Report). x.end) told.report) ∙ answered) in
+    let unspent = unspent_at most (s.number - 1) s.shards (opening I) looked.seen (sym (ap (λ (x : Report). x.end) told.report) ∙ answered) in
+    let again = (told.answered answered).0 in
     ⊎_elim
-    (λ (one : NotesOne u w mid new (length saw)). noted_more most (length v.seen) saw v u w old mid new le more ended unspent noted one)
-    (λ (none : NotesNone u w mid new × (proposal_limit ≤ length w.seen)). noted_same most (length v.seen) v u w old mid new more noted none.0)
-    (told.answered answered))
-    (λ (rests : r.end ≢ Answered). noted_same most (length v.seen) v u w old mid new more noted (told.rests rests).1)
+    (λ (one : NotesOne u w mid new (length looked.seen)). noted_more most (length v.seen) looked.seen v u w old mid new le more ended (omega (arith, turn, again)) unspent noted one)
+    (λ (none : NotesNone u w mid new × (proposal_limit ≤ length w.seen)). noted_same most (length v.seen) v u w old mid new more (omega (arith, turn, again)) noted none.0)
+    (told.answered answered).1)
+    (λ (rests : r.end ≢ Answered). let once = (told.rests rests).1 in noted_same most (length v.seen) v u w old mid new more (omega (arith, turn, once)) noted (told.rests rests).2)
     (answers r.end)
 
 pub noted_round : {E : Type 0} (most : ℕ) (I : Situation) (s : Searcher) (v u w : Knows) (old mid new : List Trail) (r : Result Report E) → IsPrefix v.seen u.seen → HasNoted most (length v.seen) v u old mid → HasRound most I s u w mid new r → HasNoted most (length v.seen) v w old new
 noted_round most I s v u w old mid new (Ok r) began noted round =
     let low = prefix_length v.seen u.seen began in
-    let more = prefix_length u.seen round.saw round.began in
-    noted_reported most I s round.saw v u w old mid new r (omega (arith, low, more)) round.ended (prefix_trans u.seen round.saw w.seen round.began round.ended) noted round.reported
+    let more = prefix_length u.seen round.looked.seen round.look.began in
+    noted_reported most I s v u round.looked w old mid new r (omega (arith, low, more)) round.ended (prefix_trans u.seen round.looked.seen w.seen round.look.began round.ended) round.look.turn noted round.reported
 noted_round most I s v u w old mid new (Err e) began noted round =
-    noted_same most (length v.seen) v u w old mid new (prefix_trans u.seen round.saw w.seen round.began round.ended) noted round.unnoted
+    let one = round.look.turn in
+    let later = round.unturned in
+    noted_same most (length v.seen) v u w old mid new (prefix_trans u.seen round.looked.seen w.seen round.look.began round.ended) (omega (arith, one, later)) noted round.unnoted
 
 pub worked_none : (most : ℕ) (I : Situation) (s : Searcher) (v w : Knows) (old new : List Trail) → IsPrefix v.seen w.seen → HasNoted most (length v.seen) v w old new → HasWorked most I s v w old new None
 worked_none most I s v w old new began noted = record { began = began; noted = noted; rests = tt }
 
-pub worked_some : (most : ℕ) (I : Situation) (s t : Searcher) (v u w : Knows) (old mid new : List Trail) (r : Report) → IsSameShard s t → IsPrefix v.seen w.seen → HasNoted most (length v.seen) v w old new → ((saw : List Entry) × IsReportedBy most I t saw u w mid new r) → r.end ≢ Answered → HasWorked most I s v w old new (Some r)
-worked_some most I s t v u w old mid new r same began noted told ne =
-    let rests = told.1.rests ne in
+pub worked_some : {E : Type 0} (most : ℕ) (I : Situation) (s t : Searcher) (v u w : Knows) (old mid new : List Trail) (r : Report) → IsSameShard s t → IsPrefix v.seen w.seen → HasNoted most (length v.seen) v u old mid → HasRound {E = E} most I t u w mid new (Ok r) → r.end ≢ Answered → HasWorked most I s v w old new (Some r)
+worked_some {E} most I s t v u w old mid new r same began noted round ne =
+    let told = round.reported in
+    let rests = told.rests ne in
+    let one = round.look.turn in
+    let once = rests.1 in
+    let two = noted.turns in
     record {
       began = began;
-      noted = noted;
-      rests = (told.1.report ∙ (λ i. report_at most (same.number i - 1) (same.shards i) (opening I) (sym rests.0 i)), ne);
+      noted = noted_same most (length v.seen) v u w old mid new (prefix_trans u.seen round.looked.seen w.seen round.look.began round.ended) (omega (arith, one, once)) noted rests.2;
+      rests = (told.report ∙ (λ i. report_at most (same.number i - 1) (same.shards i) (opening I) (sym rests.0 i)), ne, omega (arith, one, once, two));
     }
 
 pub round_began : {E : Type 0} (most : ℕ) (I : Situation) (s : Searcher) (u w : Knows) (mid new : List Trail) (r : Result Report E) → HasRound most I s u w mid new r → IsPrefix u.seen w.seen
-round_began most I s u w mid new r round = prefix_trans u.seen round.saw w.seen round.began round.ended
+round_began most I s u w mid new r round = prefix_trans u.seen round.looked.seen w.seen round.look.began round.ended

@@ -11,7 +11,7 @@ pub record AreOpened (n : ℕ) (I : Situation) (h : List Entry) (workers : List 
   pub number : (i : ℕ) (d : Worker) → i < length workers → (get_or workers i d).searcher.number ≡ i + 1
   pub shards : (i : ℕ) (d : Worker) → i < length workers → (get_or workers i d).searcher.shards ≡ n
   pub ready : CanAllSearch I workers h
-  pub all : (i : ℕ) (d : Worker) → i < length workers → (get_or workers i d).searcher.follower.followed ≡ length h
+  pub all : (i : ℕ) (d : Worker) → i < length workers → (get_or workers i d).searcher.desk.entries ≡ length h
   pub trails : (i : ℕ) (d : Worker) → i < length workers → trail_of (get_or workers i d) ≡ (let none : List Trail = [] in none)
 
 pub opened_none : (n : ℕ) (I : Situation) (h : List Entry) → AreOpened n I h []
@@ -29,12 +29,12 @@ each_push P [] a each here (suc i) d lt = absurd (omega (arith, lt))
 each_push P (x ∷ xs) a each here zero d lt = each zero d (omega arith)
 each_push P (x ∷ xs) a each here (suc i) d lt = each_push (λ (k : ℕ) (y : _). P (suc k) y) xs a (λ k e low. each (suc k) e (omega (arith, low))) here i d (omega (arith, lt))
 
-pub opened_more : (n : ℕ) (I : Situation) (h : List Entry) (workers : List Worker) (w : Worker) → AreOpened n I h workers → w.searcher.number ≡ length workers + 1 → w.searcher.shards ≡ n → CanSearch I w h → w.searcher.follower.followed ≡ length h → trail_of w ≡ (let none : List Trail = [] in none) → AreOpened n I h (workers ++ w ∷ [])
+pub opened_more : (n : ℕ) (I : Situation) (h : List Entry) (workers : List Worker) (w : Worker) → AreOpened n I h workers → w.searcher.number ≡ length workers + 1 → w.searcher.shards ≡ n → CanSearch I w h → w.searcher.desk.entries ≡ length h → trail_of w ≡ (let none : List Trail = [] in none) → AreOpened n I h (workers ++ w ∷ [])
 opened_more n I h workers w opened number shards ready all trail = record {
   number = each_push (λ i x. x.searcher.number ≡ i + 1) workers w opened.number number;
   shards = each_push (λ i x. x.searcher.shards ≡ n) workers w opened.shards shards;
   ready = each_push (λ i x. CanSearch I x h) workers w opened.ready ready;
-  all = each_push (λ i x. x.searcher.follower.followed ≡ length h) workers w opened.all all;
+  all = each_push (λ i x. x.searcher.desk.entries ≡ length h) workers w opened.all all;
   trails = each_push (λ i x. trail_of x ≡ (let none : List Trail = [] in none)) workers w opened.trails trail;
 }
 

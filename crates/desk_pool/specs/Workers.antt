@@ -5,6 +5,7 @@ use Rattle.desk_model.specs.declared.answer.Event.{Event}
 use Rattle.desk_model.specs.declared.answer.Answer.{Answer}
 use Rattle.desk_model.specs.declared.answer.Entry.{Entry}
 use Rattle.desk_core.specs.Recorded.{Recorded}
+use Rattle.desk_core.specs.declared.news.News.{News}
 use Rattle.turn_book.specs.declared.turn.Turn.{Turn}
 use Rattle.turn_book.specs.Passes.{first_book, known, seen, tags, IsPassOf}
 use Rattle.turn_book.specs.SplitPasses.{IsSplitOff}
@@ -14,7 +15,7 @@ use Rattle.desk_core.specs.Turned.{opening_of}
 use Rattle.desk_pool.specs.Rounds.{Knows, IsReady, IsSameShard, HasWorked}
 
 abbrev pub DeskTurn : Type 0
-DeskTurn = Turn Recorded Situation Event Answer Entry
+DeskTurn = Turn Recorded Situation Event Answer Entry News
 
 -- the instance of the book that a turn was opened with
 abbrev pub day_of : DeskTurn → Situation

@@ -17,7 +17,7 @@ pub fn open_workers(alloc: Global, count: u32, book: &Book) -> Result<Vec<Worker
     ensures shards { IfOk result (λ workers. AreAllShards workers.items) }
     ensures numbers { IfOk result (λ workers. (i : ℕ) (d : Known) → i < length workers.items → (slice_index_or workers.items i d).searcher.number ≡ i + 1) }
     ensures ready { IfOk result (λ workers. CanAllSearch book.now.opening workers.items book.now.journal) }
-    ensures all { IfOk result (λ workers. (i : ℕ) (d : Known) → i < length workers.items → (slice_index_or workers.items i d).searcher.follower.followed ≡ length book.now.journal) }
+    ensures all { IfOk result (λ workers. (i : ℕ) (d : Known) → i < length workers.items → (slice_index_or workers.items i d).searcher.desk.entries ≡ length book.now.journal) }
     ensures trails { IfOk result (λ workers. (i : ℕ) (d : Known) → i < length workers.items → trail_of (slice_index_or workers.items i d) ≡ []) }
 {
     let mut workers = Vec::with_capacity(alloc, count as usize)?;

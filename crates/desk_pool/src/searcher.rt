@@ -9,8 +9,8 @@ ghost use Rattle.desk_core.specs.Turned.{opening_of};
 ghost use Rattle.turn_book.specs.Passes.{first_book, known, seen, tags, IsPassOf};
 ghost use Rattle.desk_pool.specs.Rounds.{IsReady, IsSameShard, IsSameSearcher, HasRound, HasWorked, HasProposed, IsFound};
 
-use crate::follower::Follower;
-use desk_core::{Answer, Book, Event, Move};
+use crate::catch_up::catch_up;
+use desk_core::{Answer, Book, Desk, Event, Move};
 use desk_data::NoMem;
 use desk_folder::Gate;
 use desk_teams::{End, Report, Trail};
@@ -24,11 +24,12 @@ pub(crate) struct Searcher {
     /// From 1 to `shards`. It is the caller of its proposals, and its shard is one less.
     pub number: u32,
     pub shards: u32,
-    pub follower: Follower,
+    /// A state that follows the book.
+    pub desk: Desk,
     /// How many rounds it has made.
     pub rounds: u32,
     pub trail: Vec<Trail>,
-    /// What it noted of the day at which the follower stands.
+    /// What it noted of the day of that state.
     pub finder: Finder,
 }
 
@@ -38,7 +39,7 @@ impl Drop for Searcher {
         let Searcher {
             number: _,
             shards: _,
-            follower: _,
+            desk: _,
             rounds: _,
             trail: _,
             finder: _,
@@ -57,21 +58,21 @@ impl Searcher {
     fn search(&mut self, alloc: Global, budget: u32) -> Result<Next, NoMem>
         requires some { 1 ≤ self.old.number }
         requires few { self.old.number ≤ self.old.shards }
-        requires past { self.old.follower.eval.past ≡ [] }
-        requires finder { IsFinderOf self.old.follower.eval.inst self.old.finder }
+        requires past { self.old.desk.eval.past ≡ [] }
+        requires finder { IsFinderOf self.old.desk.eval.inst self.old.finder }
         ensures found { IfOk result (IsFound budget self.old) }
         ensures same { IsSameSearcher self.old self.new }
-        ensures finder { IsFinderOf self.old.follower.eval.inst self.new.finder }
+        ensures finder { IsFinderOf self.old.desk.eval.inst self.new.finder }
     {
-        if let Some(item) = self.follower.broken {
+        if let Some(item) = self.desk.broken() {
             return Ok(Next::Ends(End::NoPlan(item)));
         }
-        if self.follower.is_spent(budget) {
+        if self.desk.is_spent(budget) {
             return Ok(Next::Ends(End::Spent));
         }
         let found = first_better(
             alloc,
-            &mut self.follower.eval,
+            &mut self.desk.eval,
             &mut self.finder,
             self.number - 1,
             self.shards,
@@ -96,7 +97,7 @@ impl Searcher {
         requires fits { Fits (first_book turn.now).opening m }
         ensures of { IsPassOf opening_of turn.now pass.new }
         ensures tags { tags pass.new ≡ tags pass.old }
-        ensures same { IsSameShard self.old self.new × (self.new.follower ≡ self.old.follower) × (self.new.finder ≡ self.old.finder) }
+        ensures same { IsSameShard self.old self.new × (self.new.desk ≡ self.old.desk) × (self.new.finder ≡ self.old.finder) }
         ensures proposed { HasProposed (first_book turn.now).opening self.old m (known pass.old) (known pass.new) self.new.trail.items result }
     {
         self.trail.reserve(1)?;
@@ -108,7 +109,7 @@ impl Searcher {
         let place = pass.seen().saturating_sub(1);
         self.trail.push_reserved(Trail {
             place,
-            saw: self.follower.followed,
+            saw: self.desk.entries,
         });
         Ok(())
     }
@@ -132,11 +133,10 @@ impl Searcher {
         ensures same { IsSameShard self.old self.new }
         ensures round { HasRound budget (first_book turn.now).opening self.old (known pass.old) (known pass.new) self.old.trail.items self.new.trail.items result }
     {
-        let finder = &mut self.finder;
-        self.follower.catch_up(rt, alloc, turn, pass, finder)?;
+        catch_up(rt, alloc, &mut self.desk, &mut self.finder, turn, pass)?;
         gate.enter(self.number, self.rounds);
         self.rounds = self.rounds.saturating_add(1);
-        let changes = self.follower.changes;
+        let changes = self.desk.changes;
         let end = match self.search(alloc, budget)? {
             Next::Ends(end) => end,
             Next::Proposes(m) => {

@@ -82,5 +82,5 @@ fn proposal<L: Listener>(
 pub(crate) fn is_spent(book: &Book, most: u32) -> bool
     ensures { result ≡ is_spent most book.now.journal }
 {
-    book.accepted() >= most || !book.takes_proposals()
+    book.is_spent(most)
 }

@@ -8,45 +8,45 @@ use Rattle.turn_book.specs.declared.view.Tags.{Tags}
 use Rattle.turn_book.specs.Names.{Name}
 use Rattle.turn_book.specs.Histories.{listed, placed}
 
-module _ {B O A R I : Type 0} {k : _} where
+module _ {B O A R I N : Type 0} {k : _} where
   -- all that a pass knows
-  abbrev pub known : Pass B O A R I k → View O I
+  abbrev pub known : Pass B O A R I N k → View O I
   known p = p.seat.me.0
 
   -- the history that a pass has seen
-  abbrev pub seen : Pass B O A R I k → List I
+  abbrev pub seen : Pass B O A R I N k → List I
   seen p = p.seat.me.0.seen
 
   -- the places in that history of the entries that its calls added
-  abbrev pub made : Pass B O A R I k → List ℕ
+  abbrev pub made : Pass B O A R I N k → List ℕ
   made p = p.seat.me.0.made
 
   -- how often it had the turn
-  abbrev pub turns : Pass B O A R I k → ℕ
+  abbrev pub turns : Pass B O A R I N k → ℕ
   turns p = p.seat.me.0.turns
 
   -- how a pass is named, what is out, and of its last join the two passes
-  abbrev pub tags : Pass B O A R I k → Tags I
+  abbrev pub tags : Pass B O A R I N k → Tags I
   tags p = p.seat.me.0.tags
 
   -- a pass's own name
-  abbrev pub name : Pass B O A R I k → Name
+  abbrev pub name : Pass B O A R I N k → Name
   name p = p.seat.me.0.tags.name
 
   -- its own name, and those of the passes joined into it
-  abbrev pub names : Pass B O A R I k → List Name
+  abbrev pub names : Pass B O A R I N k → List Name
   names p = p.seat.me.0.tags.names
 
   -- the passes that were split from these and not joined into it yet
-  abbrev pub out : Pass B O A R I k → List Name
+  abbrev pub out : Pass B O A R I N k → List Name
   out p = p.seat.me.0.tags.out
 
 -- the book that a turn was opened with
-abbrev pub first_book : {B O A R I : Type 0} → Turn B O A R I → B
+abbrev pub first_book : {B O A R I N : Type 0} → Turn B O A R I N → B
 first_book t = t.table.shared.key.value
 
 -- the pass is one of this turn
-abbrev pub IsPassOf : {B O A R I : Type 0} {k : _} → (B → O) → Turn B O A R I → Pass B O A R I k → Type 0
+abbrev pub IsPassOf : {B O A R I N : Type 0} {k : _} → (B → O) → Turn B O A R I N → Pass B O A R I N k → Type 0
 IsPassOf opening t p = (p.seat.table_id ≡ t.table.shared.table_id) × (p.seat.me.0.from ≡ Some (opening (first_book t)))
 
 -- The pass had the turn once: more of the history was seen, which was all of it then, and no call made.

@@ -7,7 +7,7 @@ use Rattle.turn_book.specs.declared.view.View.{View}
 use Rattle.turn_book.specs.Knowing.{view}
 
 -- the seat is one of this turn's table, and knows the opening of its book
-abbrev pub IsSeatOf : {B O A R I : Type 0} → (B → O) → Turn B O A R I → Seat (Option B) (View O I) → Type 0
+abbrev pub IsSeatOf : {B O A R I N : Type 0} → (B → O) → Turn B O A R I N → Seat (Option B) (View O I) → Type 0
 IsSeatOf opening t s = (s.table_id ≡ t.table.shared.table_id) × (s.me.0.from ≡ Some (opening t.table.shared.key.value))
 
 -- the seat has neither the turn nor the book

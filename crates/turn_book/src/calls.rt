@@ -107,6 +107,28 @@ impl<B: SharedBook> Turn<B> {
         items
     }
 
+    /// What brings one who has followed the first `n` entries to the end of the journal, once it is this pass's turn. The
+    /// pass has then seen all of it. The only error is out of memory.
+    pub fn news<R: Wait>(
+        &self,
+        rt: &R,
+        alloc: Global,
+        pass: &mut Pass<B>,
+        n: u32,
+    ) -> Result<B::News, NoMem>
+        requires of { IsPassOf B.opening self.now pass.old }
+        requires place { n ≤ length (seen pass.old) }
+        ensures of { IsPassOf B.opening self.now pass.new }
+        ensures looked { Looked (known pass.old) (known pass.new) }
+        ensures news { IfOk result (B.brings (B.opening (first_book self.now)) (seen pass.new) n) }
+        ensures legal { IsLegal B.may_ask B.answers (B.opening (first_book self.now)) (seen pass.new) }
+        ensures sound { IsSound (known pass.new) }
+    {
+        let (news, count) = self.hear(rt, alloc, &mut pass.seat, n);
+        pass.count = count;
+        news
+    }
+
     /// A new pass for another thread. It has seen as much, has made no calls, and is out.
     pub fn split(&self, pass: &mut Pass<B>) -> Pass<B>
         requires of { IsPassOf B.opening self.now pass.old }

@@ -163,4 +163,31 @@ impl<B: SharedBook> Turn<B> {
         let count = self.finish(seat, book, before);
         (items, count)
     }
+
+    /// What brings one who has followed some first entries to the end of the journal, under the turn, and how many entries there are.
+    pub(crate) fn hear<R: Wait>(
+        &self,
+        rt: &R,
+        alloc: Global,
+        seat: &mut Seat<Option<B>, View<B::Opening, B::Item>>,
+        n: u32,
+    ) -> (Result<B::News, NoMem>, u32)
+        requires of { IsSeatOf B.opening self.now seat.old }
+        requires rests { IsAtRest seat.old.me }
+        requires place { n ≤ length seat.old.me.0.seen }
+        ensures of { IsSeatOf B.opening self.now seat.new }
+        ensures rests { IsAtRest seat.new.me }
+        ensures count { result.1 ≡ length seat.new.me.0.seen }
+        ensures looked { Looked seat.old.me.0 seat.new.me.0 }
+        ensures news { IfOk result.0 (B.brings (B.opening self.now.table.shared.key.value) seat.new.me.0.seen n) }
+        ensures legal { IsLegal B.may_ask B.answers (B.opening self.now.table.shared.key.value) seat.new.me.0.seen }
+        ensures sound { IsSound seat.new.me.0 }
+    {
+        self.take(rt, seat);
+        let book = self.begin(seat);
+        let before = book.entries();
+        let news = book.news(alloc, n);
+        let count = self.finish(seat, book, before);
+        (news, count)
+    }
 }

@@ -21,6 +21,9 @@ pub trait SharedBook: Send {
     /// An entry of the journal.
     type Item;
 
+    /// What is handed to whoever follows the journal.
+    type News;
+
     /// How this book began. No call changes it.
     ghost opening: { Self → Self.Opening };
 
@@ -36,6 +39,9 @@ pub trait SharedBook: Send {
 
     /// Whether a reply says that an item was added.
     ghost tells: { Self.Reply → Bool };
+
+    /// Whether, at this opening and this journal, this brings one who has followed so many first items to its end.
+    ghost brings: { Self.Opening → List Self.Item → ℕ → Self.News → Type 0 };
 
     /// How many items the journal has: at most 4,294,967,295. The journal is legal.
     fn entries(&self) -> u32
@@ -55,4 +61,9 @@ pub trait SharedBook: Send {
     fn tail(&self, alloc: Global, n: u32) -> Result<Vec<Self::Item>, NoMem>
         requires { n ≤ length (journal self.now) }
         ensures { IfOk result (λ items. items.items ≡ drop n (journal self.now)) };
+
+    /// What brings one who has followed the first `n` items to the end of the journal.
+    fn news(&self, alloc: Global, n: u32) -> Result<Self::News, NoMem>
+        requires { n ≤ length (journal self.now) }
+        ensures { IfOk result (brings (opening self.now) (journal self.now) n) };
 }

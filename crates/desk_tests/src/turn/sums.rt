@@ -1,6 +1,6 @@
 //! A book of numbers, whose reply is the sum so far.
 
-ghost use Rattle.std.specs.Prelude.{◌≡◌, ◌+◌, ◌≤◌, ◌*◌, ◌^◌, [], length, sum, Some, None, is_some};
+ghost use Rattle.std.specs.Prelude.{◌≡◌, ◌+◌, ◌≤◌, ◌*◌, ◌^◌, [], length, drop, sum, Some, None, is_some};
 
 use desk_units::NoMem;
 use std::alloc::Global;
@@ -47,6 +47,9 @@ impl SharedBook for Sums {
 
     type Item = u16;
 
+    /// The numbers that are new.
+    type News = Vec<u16>;
+
     ghost use Rattle.desk_tests.specs.Summing.{AddsUp};
 
     ghost opening = { λ b. b.room };
@@ -58,6 +61,8 @@ impl SharedBook for Sums {
     ghost answers = { λ room before caller ask reply added. AddsUp room before ask reply added };
 
     ghost tells = { is_some };
+
+    ghost brings = { λ room journal n news. news.items ≡ drop n journal };
 
     fn entries(&self) -> u32 {
         self.numbers.len() as u32
@@ -83,5 +88,9 @@ impl SharedBook for Sums {
             return Err(NoMem);
         }
         Ok(numbers)
+    }
+
+    fn news(&self, alloc: Global, n: u32) -> Result<Vec<u16>, NoMem> {
+        self.tail(alloc, n)
     }
 }

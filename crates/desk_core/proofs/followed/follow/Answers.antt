@@ -21,7 +21,6 @@ returns-in_default c =
     let given : c.args.entry.now.answer ≡ answer (state_in E) (event.Move m) = c.requires.answered ∙ ap (answer (state_in E)) c.in-Move.is in
     record {
       ok = rw c.in-Move.is (followed_none E m c.args.entry.now.answer given (not_accepted c.args.entry.now.answer (λ cost is. c.in_default.not-Accepted cost is)));
-      broken = c.requires.state;
       past = c.requires.past;
       err = tt;
     }

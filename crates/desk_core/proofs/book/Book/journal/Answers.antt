@@ -6,4 +6,4 @@ pub returns-clause-legal : goal.returns-clause-legal
 returns-clause-legal c = rw (← c.self.view_is) c.self.invariant.legal
 
 pub returns-clause-promises : goal.returns-clause-promises
-returns-clause-promises c = rw (← c.self.view_is) (promises (undisturbed c.self.inside.eval.inst) c.self.inside.journal.items c.self.invariant.legal)
+returns-clause-promises c = rw (← c.self.view_is) (promises (undisturbed c.self.inside.desk.eval.inst) c.self.inside.journal.items c.self.invariant.legal)

@@ -4,7 +4,7 @@ use Rattle.turn_book.specs.Passes.{first_book, known, seen}
 use Rattle.desk_units.specs.declared.memory.NoMem.{NoMem}
 use Rattle.desk_teams.specs.declared.report.Report.{Report}
 use Rattle.near_search.specs.Finders.{IsFinderOf}
-use Rattle.desk_pool.specs.declared.follower.Follower.{Follower}
+use Rattle.desk_pool.specs.declared.desk.Follower.{Follower}
 use Rattle.desk_pool.specs.declared.searcher.Searcher.{Searcher}
 use Rattle.desk_pool.specs.Rounds.{IsReady, HasRound, IsSameShard}
 use Rattle.desk_pool.proofs.Reporting.{StandsAtEnd, at_end}
@@ -15,7 +15,7 @@ use Rattle.desk_pool.proofs.searcher.Searcher.round.Goals as goal
 pub returns-in_err-catch_up-clause-ready : goal.returns-in_err-catch_up-clause-ready
 returns-in_err-catch_up-clause-ready g c =
     let s = c.args.self.now in
-    ready_on (first_book c.args.turn.now).opening s (record s { follower = c.catch_up.new.self; finder = c.catch_up.new.finder }) (seen c.args.pass.now) (seen c.catch_up.new.pass) c.requires.ready c.catch_up.ensures.looked.began (record { number = refl; shards = refl }) c.catch_up.ensures.stands c.catch_up.ensures.finder refl
+    ready_on (first_book c.args.turn.now).opening s (record s { desk = c.catch_up.new.desk; finder = c.catch_up.new.finder }) (seen c.args.pass.now) (seen c.catch_up.new.pass) c.requires.ready c.catch_up.ensures.looked.began (record { number = refl; shards = refl }) c.catch_up.ensures.stands c.catch_up.ensures.finder refl
 
 pub returns-in_err-catch_up-clause-round : goal.returns-in_err-catch_up-clause-round
 returns-in_err-catch_up-clause-round g c =
@@ -26,8 +26,8 @@ returns-in_err-end-clause-ready g c =
     let s = c.args.self.now in
     let same = c.search.ensures.same in
     ready_on (first_book c.args.turn.now).opening s c.search.new.self (seen c.args.pass.now) (seen c.catch_up.new.pass) c.requires.ready c.catch_up.ensures.looked.began (record { number = same.number; shards = same.shards })
-    (subst (λ (f : Follower). Rattle.desk_pool.specs.Follows.StandsAt (first_book c.args.turn.now).opening f (seen c.catch_up.new.pass)) (sym same.follower) c.catch_up.ensures.stands)
-    (subst (λ (f : Follower). IsFinderOf f.eval.inst c.search.new.self.finder) (sym same.follower) c.search.ensures.finder) (ap (λ t. t.items) same.trail)
+    (subst (λ (f : Desk). Rattle.desk_core.specs.Desks.StandsAt (first_book c.args.turn.now).opening f (seen c.catch_up.new.pass)) (sym same.desk) c.catch_up.ensures.stands)
+    (subst (λ (f : Desk). IsFinderOf f.eval.inst c.search.new.self.finder) (sym same.desk) c.search.ensures.finder) (ap (λ t. t.items) same.trail)
 
 pub returns-in_err-end-clause-round : goal.returns-in_err-end-clause-round
 returns-in_err-end-clause-round g c =
@@ -37,7 +37,7 @@ pub propose-requires-clause-fits : goal.propose-requires-clause-fits
 propose-requires-clause-fits g c =
     let I = (first_book c.args.turn.now).opening in
     let h = seen c.catch_up.new.pass in
-    fits_opening I c.catch_up.new.self h c.in-Proposes.m (at_end I c.catch_up.new.self h c.catch_up.ensures.stands c.in_ok-catch_up.ensures.all) (c.in_ok-end.ensures.found.fits c.in-Proposes.m c.in-Proposes.is)
+    fits_opening I c.catch_up.new.desk h c.in-Proposes.m (at_end I c.catch_up.new.desk h c.catch_up.ensures.stands c.in_ok-catch_up.ensures.all) (c.in_ok-end.ensures.found.fits c.in-Proposes.m c.in-Proposes.is)
 
 pub returns-in_err-propose-in-Proposes-clause-ready : goal.returns-in_err-propose-in-Proposes-clause-ready
 returns-in_err-propose-in-Proposes-clause-ready g c =
@@ -46,10 +46,10 @@ returns-in_err-propose-in-Proposes-clause-ready g c =
     let s = c.args.self.now in
     let t = c.search.new.self in
     let same = c.search.ensures.same in
-    let stands = subst (λ (f : Follower). Rattle.desk_pool.specs.Follows.StandsAt I f h) (sym same.follower) c.catch_up.ensures.stands in
-    let finder = subst (λ (f : Follower). IsFinderOf f.eval.inst t.finder) (sym same.follower) c.search.ensures.finder in
+    let stands = subst (λ (f : Desk). Rattle.desk_core.specs.Desks.StandsAt I f h) (sym same.desk) c.catch_up.ensures.stands in
+    let finder = subst (λ (f : Desk). IsFinderOf f.eval.inst t.finder) (sym same.desk) c.search.ensures.finder in
     let ready : IsReady I t h = ready_on I s t (seen c.args.pass.now) h c.requires.ready c.catch_up.ensures.looked.began (record { number = same.number; shards = same.shards }) stands finder (ap (λ x. x.items) same.trail) in
-    let e : StandsAtEnd I t.follower h = at_end I t.follower h stands (ap (λ (f : Follower). f.followed) same.follower ∙ c.in_ok-catch_up.ensures.all) in
+    let e : StandsAtEnd I t.desk h = at_end I t.desk h stands (ap (λ (f : Desk). f.entries) same.desk ∙ c.in_ok-catch_up.ensures.all) in
     let found = found_same c.args.budget _ t c.in_ok-end.field-0 same c.in_ok-end.ensures.found in
     ready_proposed c.args.budget I t c.propose.new.self c.in_ok-end.field-0 c.in-Proposes.m (known c.catch_up.new.pass) (known c.propose.new.pass) c.propose.result ready e found c.in-Proposes.is c.propose.ensures.proposed c.propose.ensures.same.0 c.propose.ensures.same.1 c.propose.ensures.same.2
 
@@ -57,7 +57,7 @@ pub returns-in_err-propose-in-Proposes-clause-round : goal.returns-in_err-propos
 returns-in_err-propose-in-Proposes-clause-round g c =
     let same = c.search.ensures.same in
     round_proposed_err c.args.budget (first_book c.args.turn.now).opening c.args.self.now c.search.new.self (known c.args.pass.now) (known c.catch_up.new.pass) (known c.propose.new.pass) c.args.self.now.trail.items c.propose.new.self.trail.items c.from_residual-in_err-propose-in-Proposes.result
-    c.catch_up.ensures.looked (ap (λ x. x.items) same.trail) c.propose.ensures.proposed.began c.in_err-propose-in-Proposes.ensures.proposed.unnoted c.from_residual-in_err-propose-in-Proposes.ensures.0
+    c.catch_up.ensures.looked (ap (λ x. x.items) same.trail) c.propose.ensures.proposed.began c.propose.ensures.proposed.unturned c.in_err-propose-in-Proposes.ensures.proposed.unnoted c.from_residual-in_err-propose-in-Proposes.ensures.0
 
 pub returns-clause-ready : goal.returns-clause-ready
 returns-clause-ready g c =
@@ -66,10 +66,10 @@ returns-clause-ready g c =
     let s = c.args.self.now in
     let t = c.search.new.self in
     let same = c.search.ensures.same in
-    let stands = subst (λ (f : Follower). Rattle.desk_pool.specs.Follows.StandsAt I f h) (sym same.follower) c.catch_up.ensures.stands in
-    let finder = subst (λ (f : Follower). IsFinderOf f.eval.inst t.finder) (sym same.follower) c.search.ensures.finder in
+    let stands = subst (λ (f : Desk). Rattle.desk_core.specs.Desks.StandsAt I f h) (sym same.desk) c.catch_up.ensures.stands in
+    let finder = subst (λ (f : Desk). IsFinderOf f.eval.inst t.finder) (sym same.desk) c.search.ensures.finder in
     let ready : IsReady I t h = ready_on I s t (seen c.args.pass.now) h c.requires.ready c.catch_up.ensures.looked.began (record { number = same.number; shards = same.shards }) stands finder (ap (λ x. x.items) same.trail) in
-    let e : StandsAtEnd I t.follower h = at_end I t.follower h stands (ap (λ (f : Follower). f.followed) same.follower ∙ c.in_ok-catch_up.ensures.all) in
+    let e : StandsAtEnd I t.desk h = at_end I t.desk h stands (ap (λ (f : Desk). f.entries) same.desk ∙ c.in_ok-catch_up.ensures.all) in
     let found = found_same c.args.budget _ t c.in_ok-end.field-0 same c.in_ok-end.ensures.found in
     elim c.match-branch-3.branch [
       | in-Ends w ↦ subst (λ (p : _). IsReady I c.match-branch-3.self (seen p)) (sym w.pass-is) (subst (λ (x : Searcher). IsReady I x h) (sym w.self-is) ready)
@@ -87,15 +87,15 @@ returns-clause-round g c =
     let u = known c.catch_up.new.pass in
     let same = c.search.ensures.same in
     let shard : IsSameShard s t = record { number = same.number; shards = same.shards } in
-    let stands = subst (λ (f : Follower). Rattle.desk_pool.specs.Follows.StandsAt I f h) (sym same.follower) c.catch_up.ensures.stands in
-    let e : StandsAtEnd I t.follower h = at_end I t.follower h stands (ap (λ (f : Follower). f.followed) same.follower ∙ c.in_ok-catch_up.ensures.all) in
+    let stands = subst (λ (f : Desk). Rattle.desk_core.specs.Desks.StandsAt I f h) (sym same.desk) c.catch_up.ensures.stands in
+    let e : StandsAtEnd I t.desk h = at_end I t.desk h stands (ap (λ (f : Desk). f.entries) same.desk ∙ c.in_ok-catch_up.ensures.all) in
     let found = found_same M _ t c.in_ok-end.field-0 same c.in_ok-end.ensures.found in
-    let r : Report = record { shard = c.match-branch-3.self.number - 1; shards = c.match-branch-3.self.shards; changes = c.catch_up.new.self.changes; end = c.match-branch-3.end } in
+    let r : Report = record { shard = c.match-branch-3.self.number - 1; shards = c.match-branch-3.self.shards; changes = c.catch_up.new.desk.changes; end = c.match-branch-3.end } in
     elim c.match-branch-3.branch [
       | in-Ends w ↦ subst (λ (p : _). HasRound {E = NoMem} M I s v (known p) s.trail.items c.match-branch-3.self.trail.items (Ok r)) (sym w.pass-is)
           (subst (λ (x : Searcher). HasRound {E = NoMem} M I s v u s.trail.items x.trail.items (Ok r)) (sym w.self-is)
           (round_ends {E = NoMem} M I s t c.in_ok-end.field-0 w.in-Ends.end v u s.trail.items t.trail.items r c.catch_up.ensures.looked shard (ap (λ x. x.items) same.trail) e found w.in-Ends.is
-          (λ i. record { shard = (w.self-is i).number - 1; shards = (w.self-is i).shards; changes = (sym same.follower i).changes; end = w.end-is i })))
+          (λ i. record { shard = (w.self-is i).number - 1; shards = (w.self-is i).shards; changes = (sym same.desk i).changes; end = w.end-is i })))
       | in-Proposes+in_ok-propose-in-Proposes w ↦
           let after = w.propose.ensures.same.0 in
           let n : c.match-branch-3.self.number ≡ t.number = ap (λ (x : Searcher). x.number) w.self-is ∙ after.number in
@@ -103,5 +103,5 @@ returns-clause-round g c =
           subst (λ (p : _). HasRound {E = NoMem} M I s v (known p) s.trail.items c.match-branch-3.self.trail.items (Ok r)) (sym w.pass-is)
           (subst (λ (x : Searcher). HasRound {E = NoMem} M I s v (known w.propose.new.pass) s.trail.items x.trail.items (Ok r)) (sym w.self-is)
           (round_proposes {E = NoMem} {F = NoMem} M I s t c.in_ok-end.field-0 w.in-Proposes.m v u (known w.propose.new.pass) s.trail.items w.propose.new.self.trail.items r c.catch_up.ensures.looked shard (ap (λ x. x.items) same.trail) e found w.in-Proposes.is w.in_ok-propose-in-Proposes.ensures.proposed
-          (λ i. record { shard = n i - 1; shards = m i; changes = (sym same.follower i).changes; end = w.end-is i })))
+          (λ i. record { shard = n i - 1; shards = m i; changes = (sym same.desk i).changes; end = w.end-is i })))
     ]

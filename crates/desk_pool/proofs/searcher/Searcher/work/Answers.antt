@@ -24,7 +24,6 @@ returns-in_default-end g c =
     let u = known c.loop.pass in
     let w = known c.round.new.pass in
     let on = c.loop.invariant in
-    let round = c.in-Ok.ensures.round in
     let began = round_began c.args.budget I c.loop.self u w c.loop.self.trail.items c.round.new.self.trail.items c.round.result c.round.ensures.round in
     record {
       of = c.round.ensures.of;
@@ -32,8 +31,7 @@ returns-in_default-end g c =
       ready = c.round.ensures.ready;
       same = record { number = c.round.ensures.same.number ∙ on.same.number; shards = c.round.ensures.same.shards ∙ on.same.shards };
       worked = worked_some c.args.budget I s c.loop.self v u w s.trail.items c.loop.self.trail.items c.round.new.self.trail.items c.in-Ok.report on.same (prefix_trans v.seen u.seen w.seen on.began began)
-          (noted_round c.args.budget I c.loop.self v u w s.trail.items c.loop.self.trail.items c.round.new.self.trail.items c.round.result on.began on.noted c.round.ensures.round)
-          (round.saw, round.reported) c.in_default-end.not-Answered;
+          on.noted c.in-Ok.ensures.round c.in_default-end.not-Answered;
     }
 
 pub loop-preserved : goal.loop-preserved

@@ -1,5 +1,0 @@
-use Rattle.desk_core.specs.Stops.{AreFirsts}
-use Rattle.desk_core.proofs.firsts.first_stops.Given as goal
-
-abbrev pub invariant-loop-x : goal.invariant-loop-x
-invariant-loop-x l = AreFirsts l.inst l.plan l.x l.firsts.items

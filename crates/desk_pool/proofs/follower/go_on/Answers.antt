@@ -1,4 +1,0 @@
-use Rattle.desk_pool.proofs.follower.go_on.Goals as goal
-
-pub returns-then-is_batch-clause-anew : goal.returns-then-is_batch-clause-anew
-returns-then-is_batch-clause-anew c = λ I is. c.new.ensures I

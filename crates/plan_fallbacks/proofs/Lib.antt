@@ -1,0 +1,3 @@
+mod RowParts
+mod StopLaws
+mod PushParts

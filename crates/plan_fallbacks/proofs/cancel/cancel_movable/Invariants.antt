@@ -1,0 +1,10 @@
+use Rattle.std.proofs.Common.{◌≡◌}
+use Rattle.desk_data.specs.Valid.{IsPlanFor}
+use Rattle.plan_fallbacks.proofs.RowParts.{rowed_to, grounded_row}
+use Rattle.plan_fallbacks.proofs.cancel.cancel_movable.Given as goal
+
+abbrev pub invariant-loop-x : goal.invariant-loop-x
+invariant-loop-x l = record {
+  made : l.plan ≡ rowed_to (grounded_row l.inst l.fn.plan) l.x l.fn.plan;
+  valid : IsPlanFor l.inst l.plan;
+}

@@ -1,0 +1,2 @@
+pub use Rattle.desk_model.specs.Fallback
+pub mod Stops
