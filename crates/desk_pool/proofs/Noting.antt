@@ -82,9 +82,9 @@ pub noted_round : {E : Type 0} (most : ℕ) (I : Situation) (s : Searcher) (v u 
 noted_round most I s v u w old mid new (Ok r) began noted round =
     let low = prefix_length v.seen u.seen began in
     let more = prefix_length u.seen round.looked.seen round.look.began in
-    noted_reported most I s v u round.looked w old mid new r (omega (arith, low, more)) round.ended (prefix_trans u.seen round.looked.seen w.seen round.look.began round.ended) round.look.turn noted round.reported
+    noted_reported most I s v u round.looked w old mid new r (omega (arith, low, more)) round.ended (prefix_trans u.seen round.looked.seen w.seen round.look.began round.ended) round.once noted round.reported
 noted_round most I s v u w old mid new (Err e) began noted round =
-    let one = round.look.turn in
+    let one = round.once in
     let later = round.unturned in
     noted_same most (length v.seen) v u w old mid new (prefix_trans u.seen round.looked.seen w.seen round.look.began round.ended) (omega (arith, one, later)) noted round.unnoted
 
@@ -95,7 +95,7 @@ pub worked_some : {E : Type 0} (most : ℕ) (I : Situation) (s t : Searcher) (v 
 worked_some {E} most I s t v u w old mid new r same began noted round ne =
     let told = round.reported in
     let rests = told.rests ne in
-    let one = round.look.turn in
+    let one = round.once in
     let once = rests.1 in
     let two = noted.turns in
     record {

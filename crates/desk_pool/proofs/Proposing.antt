@@ -58,14 +58,14 @@ noted_by I s m v w reply new place told full is noted =
       proposed = refl;
     }
 
-pub proposed_noted : {E : Type 0} (I : Situation) (s : Searcher) (m : Move) (v w : Knows) (reply : Answer) (new : List Trail) (place : ℕ) → Called Replies tells_entry I v s.number (event.Move m) reply w → IsPrefix v.seen w.seen → ((n : ℕ) → reply ≡ Full n → ⊥) → place ≡ length w.seen - 1
+pub proposed_noted : {E : Type 0} (I : Situation) (s : Searcher) (m : Move) (v w : Knows) (reply : Answer) (new : List Trail) (place : ℕ) → Called Replies tells_entry I v s.number (event.Move m) reply w → w.turns ≡ v.turns + 1 → IsPrefix v.seen w.seen → ((n : ℕ) → reply ≡ Full n → ⊥) → place ≡ length w.seen - 1
     → new ≡ s.trail.items ++ (let t : Trail = record { place = place; saw = s.desk.entries } in t) ∷ [] → HasProposed {E = E} I s m v w new (Ok tt)
-proposed_noted I s m v w reply new place called began lacks is noted =
+proposed_noted I s m v w reply new place called one began lacks is noted =
     let by = noted_by I s m v w reply new place (reported_of I v s.number (event.Move m) reply w called) (not_full reply lacks) is noted in
-    record { began = began; turn = called.turn; unturned = (let one = called.turn in omega (arith, one)); unnoted = tt; answered = inl by }
+    record { began = began; turn = one; unturned = omega (arith, one); unnoted = tt; answered = inl by }
 
-pub proposed_full : {E : Type 0} (I : Situation) (s : Searcher) (m : Move) (v w : Knows) (reply : Answer) (n : ℕ) (new : List Trail) → Called Replies tells_entry I v s.number (event.Move m) reply w → IsPrefix v.seen w.seen → reply ≡ Full n → new ≡ s.trail.items → HasProposed {E = E} I s m v w new (Ok tt)
-proposed_full I s m v w reply n new called began is same =
+pub proposed_full : {E : Type 0} (I : Situation) (s : Searcher) (m : Move) (v w : Knows) (reply : Answer) (n : ℕ) (new : List Trail) → Called Replies tells_entry I v s.number (event.Move m) reply w → w.turns ≡ v.turns + 1 → IsPrefix v.seen w.seen → reply ≡ Full n → new ≡ s.trail.items → HasProposed {E = E} I s m v w new (Ok tt)
+proposed_full I s m v w reply n new called one began is same =
     let told = reported_of I v s.number (event.Move m) reply w called in
     let g = told.history in
     let full : is_full reply ≡ true = ap is_full is in
@@ -75,10 +75,10 @@ proposed_full I s m v w reply n new called began is same =
     ] in
     let none = told.none room in
     let notes : NotesNone v w s.trail.items new = record { made = none.2; trail = same } in
-    record { began = began; turn = called.turn; unturned = (let one = called.turn in omega (arith, one)); unnoted = tt; answered = inr (notes, (let low = limit_reached (length g) room in omega (arith, low, ap length none.1))) }
+    record { began = began; turn = one; unturned = omega (arith, one); unnoted = tt; answered = inr (notes, (let low = limit_reached (length g) room in omega (arith, low, ap length none.1))) }
 
-pub proposed_err : {E : Type 0} (I : Situation) (s : Searcher) (m : Move) (v w : Knows) (new : List Trail) (e : E) → Looked v w → new ≡ s.trail.items → HasProposed I s m v w new (Err e)
-proposed_err I s m v w new e looked same = record { began = looked.began; turn = tt; unturned = (let one = looked.turn in omega (arith, one)); unnoted = record { made = looked.made; trail = same }; answered = tt }
+pub proposed_err : {E : Type 0} (I : Situation) (s : Searcher) (m : Move) (v w : Knows) (new : List Trail) (e : E) → Looked v w → w.turns ≡ v.turns + 1 → new ≡ s.trail.items → HasProposed I s m v w new (Err e)
+proposed_err I s m v w new e looked one same = record { began = looked.began; turn = tt; unturned = omega (arith, one); unnoted = record { made = looked.made; trail = same }; answered = tt }
 
 -- a proposal got an entry and was noted, or it got none
 pub noted_or_none : {E : Type 0} (I : Situation) (s : Searcher) (m : Move) (v w : Knows) (new : List Trail) (r : Result (Unit {0}) E) → HasProposed I s m v w new r → NotesNone v w s.trail.items new ⊎ IsNoted s m v w new

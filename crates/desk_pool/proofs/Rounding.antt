@@ -78,33 +78,36 @@ one_on v u w old mid new found saw looked same is one = record {
 
 -- ---- rounds
 
-pub round_err : {E : Type 0} (most : ℕ) (I : Situation) (s : Searcher) (v w : Knows) (old new : List Trail) (r : Result Report E) → Looked v w → new ≡ old → IsErr r → HasRound most I s v w old new r
-round_err most I s v w old new r looked same is = record {
+pub round_err : {E : Type 0} (most : ℕ) (I : Situation) (s : Searcher) (v w : Knows) (old new : List Trail) (r : Result Report E) → Looked v w → w.turns ≡ v.turns + 1 → new ≡ old → IsErr r → HasRound most I s v w old new r
+round_err most I s v w old new r looked once same is = record {
   looked = w;
   look = looked;
+  once = once;
   ended = prefix_self w.seen;
   unturned = omega arith;
   unnoted = on_err r (NotesNone v w old new) (record { made = looked.made; trail = same });
   reported = if_err r (IsReportedBy most I s v w w old new) is;
 }
 
-pub round_proposed_err : {E : Type 0} (most : ℕ) (I : Situation) (s t : Searcher) (v u w : Knows) (old new : List Trail) (r : Result Report E) → Looked v u → t.trail.items ≡ old → IsPrefix u.seen w.seen → u.turns ≤ w.turns → NotesNone u w t.trail.items new → IsErr r → HasRound most I s v w old new r
-round_proposed_err most I s t v u w old new r looked same began later none is = record {
+pub round_proposed_err : {E : Type 0} (most : ℕ) (I : Situation) (s t : Searcher) (v u w : Knows) (old new : List Trail) (r : Result Report E) → Looked v u → u.turns ≡ v.turns + 1 → t.trail.items ≡ old → IsPrefix u.seen w.seen → u.turns ≤ w.turns → NotesNone u w t.trail.items new → IsErr r → HasRound most I s v w old new r
+round_proposed_err most I s t v u w old new r looked once same began later none is = record {
   looked = u;
   look = looked;
+  once = once;
   ended = began;
   unturned = later;
   unnoted = on_err r (NotesNone v w old new) (none_on v u w old t.trail.items new looked same none);
   reported = if_err r (IsReportedBy most I s v u w old new) is;
 }
 
-pub round_ends : {E : Type 0} (most : ℕ) (I : Situation) (s t : Searcher) (next : Next) (end : End) (v w : Knows) (old new : List Trail) (r : Report) → Looked v w → IsSameShard s t → new ≡ old → StandsAtEnd I t.desk w.seen → IsFound most t next → next ≡ Ends end
+pub round_ends : {E : Type 0} (most : ℕ) (I : Situation) (s t : Searcher) (next : Next) (end : End) (v w : Knows) (old new : List Trail) (r : Report) → Looked v w → w.turns ≡ v.turns + 1 → IsSameShard s t → new ≡ old → StandsAtEnd I t.desk w.seen → IsFound most t next → next ≡ Ends end
     → r ≡ (let x : Report = record { shard = t.number - 1; shards = t.shards; changes = t.desk.changes; end = end } in x) → HasRound {E = E} most I s v w old new (Ok r)
-round_ends most I s t next end v w old new r looked same kept e found is told =
+round_ends most I s t next end v w old new r looked once same kept e found is told =
     let none : NotesNone v w old new = record { made = looked.made; trail = kept } in
     record {
       looked = w;
       look = looked;
+      once = once;
       ended = prefix_self w.seen;
       unturned = omega arith;
       unnoted = tt;
@@ -115,12 +118,13 @@ round_ends most I s t next end v w old new r looked same kept e found is told =
       };
     }
 
-pub round_proposes : {E F : Type 0} (most : ℕ) (I : Situation) (s t : Searcher) (next : Next) (m : Move) (v u w : Knows) (old new : List Trail) (r : Report) → Looked v u → IsSameShard s t → t.trail.items ≡ old → StandsAtEnd I t.desk u.seen → IsFound most t next → next ≡ Proposes m → HasProposed {E = F} I t m u w new (Ok tt)
+pub round_proposes : {E F : Type 0} (most : ℕ) (I : Situation) (s t : Searcher) (next : Next) (m : Move) (v u w : Knows) (old new : List Trail) (r : Report) → Looked v u → u.turns ≡ v.turns + 1 → IsSameShard s t → t.trail.items ≡ old → StandsAtEnd I t.desk u.seen → IsFound most t next → next ≡ Proposes m → HasProposed {E = F} I t m u w new (Ok tt)
     → r ≡ (let x : Report = record { shard = t.number - 1; shards = t.shards; changes = t.desk.changes; end = Answered } in x) → HasRound {E = E} most I s v w old new (Ok r)
-round_proposes most I s t next m v u w old new r looked same kept e found is proposed told =
+round_proposes most I s t next m v u w old new r looked once same kept e found is proposed told =
     record {
       looked = u;
       look = looked;
+      once = once;
       ended = proposed.began;
       unturned = proposed.unturned;
       unnoted = tt;

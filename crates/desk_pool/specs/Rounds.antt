@@ -70,6 +70,7 @@ pub record IsReportedBy (most : ℕ) (I : Situation) (s : Searcher) (v looked w 
 pub record HasRound {E : Type 0} (most : ℕ) (I : Situation) (s : Searcher) (v w : Knows) (old new : List Trail) (result : Result Report E) : Type 0 where
   pub looked : Knows
   pub look : Looked v looked
+  pub once : looked.turns ≡ v.turns + 1
   pub ended : IsPrefix looked.seen w.seen
   pub unturned : looked.turns ≤ w.turns
   pub unnoted : OnErr result (NotesNone v w old new)

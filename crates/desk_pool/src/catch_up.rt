@@ -1,11 +1,11 @@
 //! A state that catches up with a history.
 
-ghost use Rattle.std.specs.Prelude.{◌≡◌, length, OnOk, false, true};
+ghost use Rattle.std.specs.Prelude.{◌≡◌, ◌+◌, length, OnOk, false, true};
 ghost use Rattle.desk_data.specs.Situation.{Situation};
 ghost use Rattle.desk_model.specs.Histories.{is_batch};
 ghost use Rattle.desk_core.specs.Desks.{StandsAt};
 ghost use Rattle.desk_core.specs.Turned.{opening_of};
-ghost use Rattle.turn_book.specs.Passes.{first_book, known, seen, IsPassOf, Looked};
+ghost use Rattle.turn_book.specs.Passes.{first_book, known, seen, turns, IsPassOf, Looked};
 ghost use Rattle.near_search.specs.Finders.{IsFinderOf};
 
 use desk_core::{Book, Desk, Event, News, is_batch};
@@ -40,6 +40,7 @@ pub(crate) fn catch_up<R: Wait>(
     requires stands { StandsAt (first_book turn.now).opening desk.old (seen pass.old) }
     requires finder { IsFinderOf desk.old.eval.inst finder.old }
     ensures of { IsPassOf opening_of turn.now pass.new }
+    ensures turn { turns pass.new ≡ turns pass.old + 1 }
     ensures looked { Looked (known pass.old) (known pass.new) }
     ensures stands { StandsAt (first_book turn.now).opening desk.new (seen pass.new) }
     ensures all { OnOk result (desk.new.entries ≡ length (seen pass.new)) }

@@ -21,7 +21,6 @@ module _ {S O I : Type 0} where
     began = subst (λ (y : List I × List I). IsPrefix y.0 y.1) (λ i. (ap (λ (m : Me S (View O I)). m.0.seen) took i, sym (ap (λ (m : Me S (View O I)). m.0.seen) ended ∙ same) i)) seen;
     made = ap (λ (m : Me S (View O I)). m.0.made) ended ∙ append-nil c.0.made ∙ ap (λ (m : Me S (View O I)). m.0.made) began ∙ ap (λ (m : Me S (View O I)). m.0.made) took;
     tags = ap (λ (m : Me S (View O I)). m.0.tags) ended ∙ ap (λ (m : Me S (View O I)). m.0.tags) began ∙ ap (λ (m : Me S (View O I)). m.0.tags) took;
-    turn = ap (λ (m : Me S (View O I)). m.0.turns) ended ∙ ap (λ (m : Me S (View O I)). m.0.turns) began ∙ ap (λ (m : Me S (View O I)). m.0.turns) took;
   }
 
 pub some_same : {A : Type 0} (x y : A) → Some x ≡ Some y → x ≡ y

@@ -1,5 +1,5 @@
 -- What clauses say of a turn and its passes.
-use Rattle.std.specs.Prelude.{◌≡◌, ℕ, ◌+◌, Bool, List, ◌++◌, Option, Some, is_some}
+use Rattle.std.specs.Prelude.{◌≡◌, ℕ, Bool, List, ◌++◌, Option, Some, is_some}
 use mathlib.Core.List.{IsPrefix}
 use Rattle.turn_book.specs.declared.turn.Pass.{Pass}
 use Rattle.turn_book.specs.declared.turn.Turn.{Turn}
@@ -49,15 +49,14 @@ first_book t = t.table.shared.key.value
 abbrev pub IsPassOf : {B O A R I N : Type 0} {k : _} → (B → O) → Turn B O A R I N → Pass B O A R I N k → Type 0
 IsPassOf opening t p = (p.seat.table_id ≡ t.table.shared.table_id) × (p.seat.me.0.from ≡ Some (opening (first_book t)))
 
--- The pass had the turn once: more of the history was seen, which was all of it then, and no call made.
+-- More of the history was seen, and no call made.
 pub record Looked {O I : Type 0} (v w : View O I) : Type 0 where
   pub began : IsPrefix v.seen w.seen
   pub made : w.made ≡ v.made
   pub tags : w.tags ≡ v.tags
-  pub turn : w.turns ≡ v.turns + 1
 
 module _ {O A R I : Type 0} (answers : O → List I → ℕ → A → R → Option I → Type 0) (tells : R → Bool) (o : O) where
-  -- A call, which has the turn once. Before is the history that stood at its turn. It begins with all that was seen, and the reply is one at it, and says whether there is an item; that comes after it, and its place is made.
+  -- A call. Before is the history that stood at its turn. It begins with all that was seen, and the reply is one at it, and says whether there is an item; that comes after it, and its place is made.
   pub record Called (v : View O I) (caller : ℕ) (ask : A) (reply : R) (w : View O I) : Type 0 where
     pub before : List I
     pub added : Option I
@@ -67,4 +66,3 @@ module _ {O A R I : Type 0} (answers : O → List I → ℕ → A → R → Opti
     pub seen : w.seen ≡ before ++ listed added
     pub made : w.made ≡ v.made ++ placed before added
     pub tags : w.tags ≡ v.tags
-    pub turn : w.turns ≡ v.turns + 1

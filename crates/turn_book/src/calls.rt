@@ -28,7 +28,7 @@ impl<B: SharedBook> Pass<B> {
 }
 
 impl<B: SharedBook> Turn<B> {
-    ghost use Rattle.turn_book.specs.Passes.{first_book, known, seen, made, name, names, out, tags, IsPassOf, Called, Looked};
+    ghost use Rattle.turn_book.specs.Passes.{first_book, known, seen, made, turns, name, names, out, tags, IsPassOf, Called, Looked};
 
     /// Opens a turn on a book. The pass has seen the book's journal, and no other is out. Where there is
     /// no memory, the book comes back as it was.
@@ -60,7 +60,7 @@ impl<B: SharedBook> Turn<B> {
         }
     }
 
-    /// Asks the book, once it is this pass's turn. The reply says whether an entry was added. Where none
+    /// Asks the book, once it is this pass's turn, which it has once. The reply says whether an entry was added. Where none
     /// was, as after `NoMem`, the pass has seen more, and its places are as they were.
     pub fn call<R: Wait>(
         &self,
@@ -73,6 +73,7 @@ impl<B: SharedBook> Turn<B> {
         requires of { IsPassOf B.opening self.now pass.old }
         requires ask { B.may_ask (B.opening (first_book self.now)) ask.now }
         ensures of { IsPassOf B.opening self.now pass.new }
+        ensures turn { turns pass.new ≡ turns pass.old + 1 }
         ensures ok { IfOk result (λ reply. Called B.answers B.tells (B.opening (first_book self.now)) (known pass.old) caller ask.now reply (known pass.new)) }
         ensures err { IfErr result (λ _. Looked (known pass.old) (known pass.new)) }
         ensures began { IsPrefix (seen pass.old) (seen pass.new) }
@@ -85,7 +86,7 @@ impl<B: SharedBook> Turn<B> {
         reply
     }
 
-    /// The entries from place `n` on, once it is this pass's turn. The pass has then seen them.
+    /// The entries from place `n` on, once it is this pass's turn, which it has once. The pass has then seen them.
     /// The only error is out of memory.
     pub fn look<R: Wait>(
         &self,
@@ -97,6 +98,7 @@ impl<B: SharedBook> Turn<B> {
         requires of { IsPassOf B.opening self.now pass.old }
         requires place { n ≤ length (seen pass.old) }
         ensures of { IsPassOf B.opening self.now pass.new }
+        ensures turn { turns pass.new ≡ turns pass.old + 1 }
         ensures looked { Looked (known pass.old) (known pass.new) }
         ensures items { IfOk result (λ items. items.items ≡ drop n (seen pass.new)) }
         ensures legal { IsLegal B.may_ask B.answers (B.opening (first_book self.now)) (seen pass.new) }
@@ -107,8 +109,8 @@ impl<B: SharedBook> Turn<B> {
         items
     }
 
-    /// What brings one who has followed the first `n` entries to the end of the journal, once it is this pass's turn. The
-    /// pass has then seen all of it. The only error is out of memory.
+    /// What brings one who has followed the first `n` entries to the end of the journal, once it is this pass's turn, which
+    /// it has once. The pass has then seen all of it. The only error is out of memory.
     pub fn news<R: Wait>(
         &self,
         rt: &R,
@@ -119,6 +121,7 @@ impl<B: SharedBook> Turn<B> {
         requires of { IsPassOf B.opening self.now pass.old }
         requires place { n ≤ length (seen pass.old) }
         ensures of { IsPassOf B.opening self.now pass.new }
+        ensures turn { turns pass.new ≡ turns pass.old + 1 }
         ensures looked { Looked (known pass.old) (known pass.new) }
         ensures news { IfOk result (B.brings (B.opening (first_book self.now)) (seen pass.new) n) }
         ensures legal { IsLegal B.may_ask B.answers (B.opening (first_book self.now)) (seen pass.new) }

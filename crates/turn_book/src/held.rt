@@ -124,6 +124,7 @@ impl<B: SharedBook> Turn<B> {
         ensures of { IsSeatOf B.opening self.now seat.new }
         ensures rests { IsAtRest seat.new.me }
         ensures count { result.1 ≡ length seat.new.me.0.seen }
+        ensures turn { seat.new.me.0.turns ≡ seat.old.me.0.turns + 1 }
         ensures ok { IfOk result.0 (λ r. Called B.answers B.tells (B.opening self.now.table.shared.key.value) seat.old.me.0 caller ask.now r seat.new.me.0) }
         ensures err { IfErr result.0 (λ _. Looked seat.old.me.0 seat.new.me.0) }
         ensures legal { IsLegal B.may_ask B.answers (B.opening self.now.table.shared.key.value) seat.new.me.0.seen }
@@ -151,6 +152,7 @@ impl<B: SharedBook> Turn<B> {
         ensures of { IsSeatOf B.opening self.now seat.new }
         ensures rests { IsAtRest seat.new.me }
         ensures count { result.1 ≡ length seat.new.me.0.seen }
+        ensures turn { seat.new.me.0.turns ≡ seat.old.me.0.turns + 1 }
         ensures looked { Looked seat.old.me.0 seat.new.me.0 }
         ensures items { IfOk result.0 (λ v. v.items ≡ drop n seat.new.me.0.seen) }
         ensures legal { IsLegal B.may_ask B.answers (B.opening self.now.table.shared.key.value) seat.new.me.0.seen }
@@ -178,6 +180,7 @@ impl<B: SharedBook> Turn<B> {
         ensures of { IsSeatOf B.opening self.now seat.new }
         ensures rests { IsAtRest seat.new.me }
         ensures count { result.1 ≡ length seat.new.me.0.seen }
+        ensures turn { seat.new.me.0.turns ≡ seat.old.me.0.turns + 1 }
         ensures looked { Looked seat.old.me.0 seat.new.me.0 }
         ensures news { IfOk result.0 (B.brings (B.opening self.now.table.shared.key.value) seat.new.me.0.seen n) }
         ensures legal { IsLegal B.may_ask B.answers (B.opening self.now.table.shared.key.value) seat.new.me.0.seen }

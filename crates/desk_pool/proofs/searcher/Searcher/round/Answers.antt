@@ -19,7 +19,7 @@ returns-in_err-catch_up-clause-ready g c =
 
 pub returns-in_err-catch_up-clause-round : goal.returns-in_err-catch_up-clause-round
 returns-in_err-catch_up-clause-round g c =
-    round_err c.args.budget (first_book c.args.turn.now).opening c.args.self.now (known c.args.pass.now) (known c.catch_up.new.pass) c.args.self.now.trail.items c.args.self.now.trail.items c.from_residual.result c.catch_up.ensures.looked refl c.from_residual.ensures.0
+    round_err c.args.budget (first_book c.args.turn.now).opening c.args.self.now (known c.args.pass.now) (known c.catch_up.new.pass) c.args.self.now.trail.items c.args.self.now.trail.items c.from_residual.result c.catch_up.ensures.looked c.catch_up.ensures.turn refl c.from_residual.ensures.0
 
 pub returns-in_err-end-clause-ready : goal.returns-in_err-end-clause-ready
 returns-in_err-end-clause-ready g c =
@@ -31,7 +31,7 @@ returns-in_err-end-clause-ready g c =
 
 pub returns-in_err-end-clause-round : goal.returns-in_err-end-clause-round
 returns-in_err-end-clause-round g c =
-    round_err c.args.budget (first_book c.args.turn.now).opening c.args.self.now (known c.args.pass.now) (known c.catch_up.new.pass) c.args.self.now.trail.items c.search.new.self.trail.items c.from_residual-in_err-end.result c.catch_up.ensures.looked (ap (λ t. t.items) c.search.ensures.same.trail) c.from_residual-in_err-end.ensures.0
+    round_err c.args.budget (first_book c.args.turn.now).opening c.args.self.now (known c.args.pass.now) (known c.catch_up.new.pass) c.args.self.now.trail.items c.search.new.self.trail.items c.from_residual-in_err-end.result c.catch_up.ensures.looked c.catch_up.ensures.turn (ap (λ t. t.items) c.search.ensures.same.trail) c.from_residual-in_err-end.ensures.0
 
 pub propose-requires-clause-fits : goal.propose-requires-clause-fits
 propose-requires-clause-fits g c =
@@ -57,7 +57,7 @@ pub returns-in_err-propose-in-Proposes-clause-round : goal.returns-in_err-propos
 returns-in_err-propose-in-Proposes-clause-round g c =
     let same = c.search.ensures.same in
     round_proposed_err c.args.budget (first_book c.args.turn.now).opening c.args.self.now c.search.new.self (known c.args.pass.now) (known c.catch_up.new.pass) (known c.propose.new.pass) c.args.self.now.trail.items c.propose.new.self.trail.items c.from_residual-in_err-propose-in-Proposes.result
-    c.catch_up.ensures.looked (ap (λ x. x.items) same.trail) c.propose.ensures.proposed.began c.propose.ensures.proposed.unturned c.in_err-propose-in-Proposes.ensures.proposed.unnoted c.from_residual-in_err-propose-in-Proposes.ensures.0
+    c.catch_up.ensures.looked c.catch_up.ensures.turn (ap (λ x. x.items) same.trail) c.propose.ensures.proposed.began c.propose.ensures.proposed.unturned c.in_err-propose-in-Proposes.ensures.proposed.unnoted c.from_residual-in_err-propose-in-Proposes.ensures.0
 
 pub returns-clause-ready : goal.returns-clause-ready
 returns-clause-ready g c =
@@ -94,7 +94,7 @@ returns-clause-round g c =
     elim c.match-branch-3.branch [
       | in-Ends w ↦ subst (λ (p : _). HasRound {E = NoMem} M I s v (known p) s.trail.items c.match-branch-3.self.trail.items (Ok r)) (sym w.pass-is)
           (subst (λ (x : Searcher). HasRound {E = NoMem} M I s v u s.trail.items x.trail.items (Ok r)) (sym w.self-is)
-          (round_ends {E = NoMem} M I s t c.in_ok-end.field-0 w.in-Ends.end v u s.trail.items t.trail.items r c.catch_up.ensures.looked shard (ap (λ x. x.items) same.trail) e found w.in-Ends.is
+          (round_ends {E = NoMem} M I s t c.in_ok-end.field-0 w.in-Ends.end v u s.trail.items t.trail.items r c.catch_up.ensures.looked c.catch_up.ensures.turn shard (ap (λ x. x.items) same.trail) e found w.in-Ends.is
           (λ i. record { shard = (w.self-is i).number - 1; shards = (w.self-is i).shards; changes = (sym same.desk i).changes; end = w.end-is i })))
       | in-Proposes+in_ok-propose-in-Proposes w ↦
           let after = w.propose.ensures.same.0 in
@@ -102,6 +102,6 @@ returns-clause-round g c =
           let m : c.match-branch-3.self.shards ≡ t.shards = ap (λ (x : Searcher). x.shards) w.self-is ∙ after.shards in
           subst (λ (p : _). HasRound {E = NoMem} M I s v (known p) s.trail.items c.match-branch-3.self.trail.items (Ok r)) (sym w.pass-is)
           (subst (λ (x : Searcher). HasRound {E = NoMem} M I s v (known w.propose.new.pass) s.trail.items x.trail.items (Ok r)) (sym w.self-is)
-          (round_proposes {E = NoMem} {F = NoMem} M I s t c.in_ok-end.field-0 w.in-Proposes.m v u (known w.propose.new.pass) s.trail.items w.propose.new.self.trail.items r c.catch_up.ensures.looked shard (ap (λ x. x.items) same.trail) e found w.in-Proposes.is w.in_ok-propose-in-Proposes.ensures.proposed
+          (round_proposes {E = NoMem} {F = NoMem} M I s t c.in_ok-end.field-0 w.in-Proposes.m v u (known w.propose.new.pass) s.trail.items w.propose.new.self.trail.items r c.catch_up.ensures.looked c.catch_up.ensures.turn shard (ap (λ x. x.items) same.trail) e found w.in-Proposes.is w.in_ok-propose-in-Proposes.ensures.proposed
           (λ i. record { shard = n i - 1; shards = m i; changes = (sym same.desk i).changes; end = w.end-is i })))
     ]

@@ -32,3 +32,6 @@ pub returns-clause-legal : goal.returns-clause-legal
 returns-clause-legal g c =
     let from = some_same _ _ (sym c.begin-book.ensures.from ∙ (ap (λ m. m.0.from) c.take.ensures.took ∙ c.requires.of.1)) in
     subst (λ (y : g.row.B-Opening.Denot × _). IsLegal g.B.SharedBook.may_ask g.B.SharedBook.answers y.0 y.1) (λ i. (from i, sym (ap (λ m. m.0.seen) c.finish-count.ensures.rests) i)) c.finish-count.ensures.legal
+
+pub returns-clause-turn : goal.returns-clause-turn
+returns-clause-turn g c = ap (λ m. m.0.turns) c.finish-count.ensures.rests ∙ ap (λ m. m.0.turns) c.begin-book.ensures.seat ∙ ap (λ m. m.0.turns) c.take.ensures.took
