@@ -92,16 +92,18 @@ pub worked_none : (most : ℕ) (I : Situation) (s : Searcher) (v w : Knows) (old
 worked_none most I s v w old new began noted = record { began = began; noted = noted; rests = tt }
 
 pub worked_some : {E : Type 0} (most : ℕ) (I : Situation) (s t : Searcher) (v u w : Knows) (old mid new : List Trail) (r : Report) → IsSameShard s t → IsPrefix v.seen w.seen → HasNoted most (length v.seen) v u old mid → HasRound {E = E} most I t u w mid new (Ok r) → r.end ≢ Answered → HasWorked most I s v w old new (Some r)
+unfolding noted_same
 worked_some {E} most I s t v u w old mid new r same began noted round ne =
     let told = round.reported in
     let rests = told.rests ne in
     let one = round.once in
     let once = rests.1 in
     let two = noted.turns in
+    let looked : v.turns + 2 * length noted.added + 1 ≤ w.turns = omega (arith, one, once, two) in
     record {
       began = began;
       noted = noted_same most (length v.seen) v u w old mid new (prefix_trans u.seen round.looked.seen w.seen round.look.began round.ended) (omega (arith, one, once)) noted rests.2;
-      rests = (told.report ∙ (λ i. report_at most (same.number i - 1) (same.shards i) (opening I) (sym rests.0 i)), ne, omega (arith, one, once, two));
+      rests = (told.report ∙ (λ i. report_at most (same.number i - 1) (same.shards i) (opening I) (sym rests.0 i)), ne, looked);
     }
 
 pub round_began : {E : Type 0} (most : ℕ) (I : Situation) (s : Searcher) (u w : Knows) (mid new : List Trail) (r : Result Report E) → HasRound most I s u w mid new r → IsPrefix u.seen w.seen

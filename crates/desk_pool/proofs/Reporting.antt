@@ -18,7 +18,7 @@ use Rattle.desk_data.specs.declared.broken.Broken.{Broken}
 use Rattle.desk_teams.specs.declared.report.End.{End}
 use Rattle.desk_teams.specs.declared.report.End.TheVariants.{Answered}
 use Rattle.desk_teams.specs.declared.report.Report.{Report}
-use Rattle.desk_pool.specs.declared.desk.Follower.{Follower}
+use Rattle.desk_core.specs.declared.desk.Desk.{Desk}
 use Rattle.desk_pool.specs.declared.searcher.Searcher.{Searcher}
 use Rattle.desk_pool.specs.declared.searcher.Next.{Next}
 use Rattle.desk_pool.specs.declared.searcher.Next.TheVariants.{Proposes}

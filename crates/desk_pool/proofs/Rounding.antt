@@ -1,5 +1,5 @@
 -- What a round comes to.
-use Rattle.std.proofs.Common.{◌≡◌, ℕ, ◌-◌, ◌≤◌, List, [], ◌∷◌, ◌++◌, length, refl, sym, ap, ◌∙◌, subst, arith, inl, inr, ⊎_elim}
+use Rattle.std.proofs.Common.{◌≡◌, ℕ, ◌+◌, ◌-◌, ◌≤◌, List, [], ◌∷◌, ◌++◌, length, refl, sym, ap, ◌∙◌, subst, arith, inl, inr, ⊎_elim}
 use Rattle.std.specs.Prelude.{Result, Ok, Err, IfOk, OnErr, IsErr}
 use mathlib.Core.List.{IsPrefix}
 use Rattle.turn_book.specs.Passes.{Looked}
@@ -19,7 +19,7 @@ use Rattle.desk_teams.proofs.TrailLaws.{trail-longer}
 use Rattle.desk_teams.specs.declared.report.End.{End}
 use Rattle.desk_teams.specs.declared.report.End.TheVariants.{Answered}
 use Rattle.desk_teams.specs.declared.report.Report.{Report}
-use Rattle.desk_pool.specs.declared.desk.Follower.{Follower}
+use Rattle.desk_core.specs.declared.desk.Desk.{Desk}
 use Rattle.desk_pool.specs.declared.searcher.Searcher.{Searcher}
 use Rattle.desk_pool.specs.declared.searcher.Next.{Next}
 use Rattle.desk_pool.specs.declared.searcher.Next.TheVariants.{Ends, Proposes}

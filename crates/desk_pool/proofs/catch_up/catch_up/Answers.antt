@@ -15,7 +15,7 @@ pub follow-requires-clause-asked : goal.follow-requires-clause-asked
 follow-requires-clause-asked g c =
     let h = seen c.news.new.pass in
     let I = (first_book c.args.turn.now).opening in
-    let later : c.in-Entries.items.items ≡ drop c.args.desk.now.entries h = subst (brings I h c.args.desk.now.entries) c.in-Entries.is c.in_ok-news.ensures.news in
+    let later : c.in-Entries.items.items ≡ drop c.args.desk.now.entries h = subst (brings I h c.args.desk.now.entries) c.in-Entries.is c.in_ok-later.ensures.news in
     let at = entry_after h c.as_slice-entry-items.result.now c.args.desk.now.entries c.loop-entry.entry-index c.loop-entry.desk.entries c.entry-item.result (c.as_slice-entry-items.ensures.value ∙ later) c.loop-entry-test.true c.entry-item.is c.loop-entry.invariant.entries in
     asked_at I c.loop-entry.desk h c.entry-item.result c.loop-entry.invariant.stands (desk_legal I h c.news.ensures.legal) at
 
@@ -23,7 +23,7 @@ pub follow-requires-clause-answered : goal.follow-requires-clause-answered
 follow-requires-clause-answered g c =
     let h = seen c.news.new.pass in
     let I = (first_book c.args.turn.now).opening in
-    let later : c.in-Entries.items.items ≡ drop c.args.desk.now.entries h = subst (brings I h c.args.desk.now.entries) c.in-Entries.is c.in_ok-news.ensures.news in
+    let later : c.in-Entries.items.items ≡ drop c.args.desk.now.entries h = subst (brings I h c.args.desk.now.entries) c.in-Entries.is c.in_ok-later.ensures.news in
     let at = entry_after h c.as_slice-entry-items.result.now c.args.desk.now.entries c.loop-entry.entry-index c.loop-entry.desk.entries c.entry-item.result (c.as_slice-entry-items.ensures.value ∙ later) c.loop-entry-test.true c.entry-item.is c.loop-entry.invariant.entries in
     reported_at I c.loop-entry.desk h c.entry-item.result c.loop-entry.invariant.stands (desk_legal I h c.news.ensures.legal) at
 
@@ -31,7 +31,7 @@ pub follow-requires-clause-few : goal.follow-requires-clause-few
 follow-requires-clause-few g c =
     let h = seen c.news.new.pass in
     let I = (first_book c.args.turn.now).opening in
-    let later : c.in-Entries.items.items ≡ drop c.args.desk.now.entries h = subst (brings I h c.args.desk.now.entries) c.in-Entries.is c.in_ok-news.ensures.news in
+    let later : c.in-Entries.items.items ≡ drop c.args.desk.now.entries h = subst (brings I h c.args.desk.now.entries) c.in-Entries.is c.in_ok-later.ensures.news in
     let at = entry_after h c.as_slice-entry-items.result.now c.args.desk.now.entries c.loop-entry.entry-index c.loop-entry.desk.entries c.entry-item.result (c.as_slice-entry-items.ensures.value ∙ later) c.loop-entry-test.true c.entry-item.is c.loop-entry.invariant.entries in
     let lt = slice_get_within h c.loop-entry.desk.entries c.entry-item.result at in
     let long = c.seen-seen.ensures in
@@ -41,9 +41,9 @@ pub loop-entry-preserved : goal.loop-entry-preserved
 loop-entry-preserved g c =
     let h = seen c.news.new.pass in
     let I = (first_book c.args.turn.now).opening in
-    let later : c.in-Entries.items.items ≡ drop c.args.desk.now.entries h = subst (brings I h c.args.desk.now.entries) c.in-Entries.is c.in_ok-news.ensures.news in
+    let later : c.in-Entries.items.items ≡ drop c.args.desk.now.entries h = subst (brings I h c.args.desk.now.entries) c.in-Entries.is c.in_ok-later.ensures.news in
     let at = entry_after h c.as_slice-entry-items.result.now c.args.desk.now.entries c.loop-entry.entry-index c.loop-entry.desk.entries c.entry-item.result (c.as_slice-entry-items.ensures.value ∙ later) c.loop-entry-test.true c.entry-item.is c.loop-entry.invariant.entries in
-    let behind = c.in_ok-follow.ensures.ok in
+    let behind = c.in_ok-follow-in-Entries.ensures.ok in
     let on = c.loop-entry.invariant.entries in
     let one = behind.entries in
     record {

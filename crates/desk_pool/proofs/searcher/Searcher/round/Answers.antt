@@ -4,7 +4,7 @@ use Rattle.turn_book.specs.Passes.{first_book, known, seen}
 use Rattle.desk_units.specs.declared.memory.NoMem.{NoMem}
 use Rattle.desk_teams.specs.declared.report.Report.{Report}
 use Rattle.near_search.specs.Finders.{IsFinderOf}
-use Rattle.desk_pool.specs.declared.desk.Follower.{Follower}
+use Rattle.desk_core.specs.declared.desk.Desk.{Desk}
 use Rattle.desk_pool.specs.declared.searcher.Searcher.{Searcher}
 use Rattle.desk_pool.specs.Rounds.{IsReady, HasRound, IsSameShard}
 use Rattle.desk_pool.proofs.Reporting.{StandsAtEnd, at_end}
