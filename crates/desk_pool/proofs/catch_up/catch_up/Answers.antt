@@ -51,3 +51,6 @@ loop-entry-preserved g c =
       stands = next_stands I c.loop-entry.desk c.follow.new.self h c.entry-item.result c.loop-entry.invariant.stands at behind;
       finder = finder_next c.loop-entry.desk c.follow.new.self c.entry-item.result c.loop-entry.finder c.go_on.new.finder behind c.loop-entry.invariant.finder c.go_on.ensures.same c.go_on.ensures.anew;
     }
+
+pub returns-in-State-clause-finder : goal.returns-in-State-clause-finder
+returns-in-State-clause-finder g c = c.new.ensures c.in-State.later.eval.inst
