@@ -1,5 +1,5 @@
 -- What is reported of notes.
-use Rattle.std.proofs.Common.{◌≡◌, ◌≢◌, ◌⊎◌, ℕ, zero, suc, ◌+◌, ◌<◌, ◌≤◌, List, [], ◌∷◌, ◌++◌, length, take, refl, sym, ap, ◌∙◌, subst, arith, length-append, ⊎_elim, inl, inr}
+use Rattle.std.proofs.Common.{◌≡◌, ◌≢◌, ◌⊎◌, ℕ, zero, suc, ◌+◌, ◌<◌, ◌≤◌, List, [], ◌∷◌, ◌++◌, length, take, min, All, refl, sym, ap, ◌∙◌, subst, arith, length-append, ⊎_elim, inl, inr}
 use Rattle.std.specs.Prelude.{Some, None, slice_get}
 use mathlib.Core.List.{IsPrefix}
 use Rattle.desk_model.specs.declared.answer.Entry.{Entry}
@@ -8,51 +8,48 @@ use Rattle.desk_core.specs.Recorded.{Recorded}
 use Rattle.live_board.specs.declared.told.Told.{Told}
 use Rattle.live_board.specs.Histories.{history, origin, IsViewOf}
 use Rattle.live_board.proofs.Tellings.{histories_begin, origin_same}
-use Rattle.live_board.proofs.Beginnings.{prefix_self, prefix_trans, prefix_shorter, prefix_length}
+use Rattle.live_board.proofs.Beginnings.{prefix_self, prefix_trans, prefix_shorter, prefix_whole, prefix_length}
 use Rattle.live_board.specs.Watched.{AreRising}
 use Rattle.desk_model.specs.declared.view.View.{View}
 use Rattle.desk_model.specs.Views.{view_of, IsSightOf}
 use Rattle.desk_model.proofs.SightLaws.{sight, entries_of}
 use Rattle.desk_core.specs.declared.sight.Sight.{Sight}
-use Rattle.desk_core.specs.Sights.{sights, AddsSight, HasLine, HaveLines}
+use Rattle.desk_core.specs.Posts.{HasTold}
+use Rattle.desk_core.specs.Sights.{sights, below, AddsSight, HasLine, HaveLines, AreOfNotes, AreBeginnings}
 use Rattle.desk_core.proofs.TellingLaws.{some_is}
-
--- a note of what was told so far has the view of a beginning of the history
-pub told_sight : (B : Recorded) (noted log : List (Told Recorded Entry)) (s : Sight) → origin log ≡ Some B → origin noted ≢ None → IsPrefix noted log → IsViewOf sights s noted → IsSightOf (opening B.opening) (history log) s.view
-told_sight B noted log s from opened p is =
-    sight (opening B.opening) (history noted) (history log) s.view (histories_begin noted log p) (ap (λ (t : Sight). t.view) (is B (sym (origin_same noted log opened p) ∙ from)))
 
 pub told_last : (B : Recorded) (log : List (Told Recorded Entry)) (s : Sight) → origin log ≡ Some B → IsViewOf sights s log → s.view ≡ view_of (opening B.opening) (history log)
 told_last B log s from is = ap (λ (t : Sight). t.view) (is B from)
 
--- ---- of two notes of a board one begins with the other
+-- ---- of two beginnings of a log one begins with the other
 
 shorter_or : (m n : ℕ) → (m ≤ n) ⊎ (n ≤ m)
 shorter_or zero n = inl (omega arith)
 shorter_or (suc m) zero = inr (omega arith)
 shorter_or (suc m) (suc n) = ⊎_elim (λ (a : m ≤ n). inl (omega (arith, a))) (λ (b : n ≤ m). inr (omega (arith, b))) (shorter_or m n)
 
--- so one with fewer entries is a beginning of the other
-nested_below : (noted log both : List (Told Recorded Entry)) → IsPrefix noted both → IsPrefix log both → length (history noted) < length (history log) → IsPrefix noted log
-nested_below noted log both p q less = ⊎_elim
-    (λ (le : length noted ≤ length log). prefix_shorter noted log both p q le)
-    (λ (le : length log ≤ length noted). absurd (let more = prefix_length (history log) (history noted) (histories_begin log noted (prefix_shorter log noted both q p le)) in omega (arith, more, less)))
-    (shorter_or (length noted) (length log))
+-- so one that has no more entries has a beginning of the entries of the other
+nested_within : (noted told both : List (Told Recorded Entry)) → IsPrefix noted both → IsPrefix told both → length (history noted) ≤ length (history told) → IsPrefix (history noted) (history told)
+nested_within noted told both p q few = ⊎_elim
+    (λ (le : length noted ≤ length told). histories_begin noted told (prefix_shorter noted told both p q le))
+    (λ (le : length told ≤ length noted).
+    let same : history told ≡ history noted = prefix_whole (history told) (history noted) (histories_begin told noted (prefix_shorter told noted both q p le)) few in
+    subst (λ (g : List Entry). IsPrefix g (history told)) same (prefix_self (history told)))
+    (shorter_or (length noted) (length told))
 
--- and both are of one book
-pub from_both : (B : Recorded) (noted log both : List (Told Recorded Entry)) → origin log ≡ Some B → origin noted ≢ None → IsPrefix noted both → IsPrefix log both → origin noted ≡ Some B
-from_both B noted log both from opened p q = sym (origin_same noted both opened p) ∙ origin_same log both (some_is B (origin log) from) q ∙ from
+all_at : {N : Type 0} (P : N → Type 0) (xs : List N) (k : ℕ) (x : N) → All P xs → slice_get xs k ≡ Some x → P x
+all_at P [] k x all at = absurd (cc at)
+all_at P (y ∷ xs) zero x all at = (let same : y ≡ x = cc at in subst P same (all 0 y (omega arith)))
+all_at P (y ∷ xs) (suc k) x all at = all_at P xs k x (λ j d lt. all (suc j) d (omega (arith, lt))) at
 
-pub told_count : (B : Recorded) (log : List (Told Recorded Entry)) (s : Sight) → origin log ≡ Some B → IsViewOf sights s log → s.view.entries ≡ length (history log)
-told_count B log s from is = ap (λ (w : View). w.entries) (told_last B log s from is) ∙ entries_of (opening B.opening) (history log)
-
--- the view of the one with fewer entries is that of a beginning of the history of the other
-pub fewer_sight : (B : Recorded) (noted log both : List (Told Recorded Entry)) (s last : Sight) → origin log ≡ Some B → origin noted ≢ None → IsPrefix noted both → IsPrefix log both → IsViewOf sights s noted → IsViewOf sights last log
-    → s.view.entries < last.view.entries → IsSightOf (opening B.opening) (history log) s.view
-fewer_sight B noted log both s last from opened p q is whole less =
-    let few = told_count B noted s (from_both B noted log both from opened p q) is in
-    let all = told_count B log last from whole in
-    told_sight B noted log s from opened (nested_below noted log both p q (omega (arith, less, few, all))) is
+-- of what was noted of a log that begins with all that was told, what has no more entries than were told stands for a beginning of the history
+pub beginnings : {N : Type 0} (B : Recorded) (h : List Entry) (count : ℕ) (log : N → List (Told Recorded Entry)) (told last : List (Told Recorded Entry)) (notes : List N) → ((n : N) → origin (log n) ≢ None)
+    → HasTold B h told → count ≡ length (history told) → IsPrefix told last → All (λ (n : N). IsPrefix (log n) last) notes → AreBeginnings B h (below count h) log notes
+beginnings {N} B h count log told last notes opened from counted p behind k n at =
+    let q : IsPrefix (log n) last = all_at (λ (n : N). IsPrefix (log n) last) notes k n behind at in (
+      sym (origin_same (log n) last (opened n) q) ∙ (origin_same told last (some_is B (origin told) from.0) p ∙ from.0),
+      λ few. prefix_trans (history (log n)) (history told) h (nested_within (log n) told last q p (omega (arith, few, counted))) from.1,
+    )
 
 -- ---- none of a few notes is left out
 
@@ -95,28 +92,44 @@ line_stays S g lines more line = (line.0, get_first lines more line.0 (view_of S
 same_sights : (S : State) (h : List Entry) (v w : View) → IsSightOf S h v → IsSightOf S h w → v.entries ≡ w.entries → v ≡ w
 same_sights S h v w one other count = one.view ∙ ap (λ (n : ℕ). view_of S (take n h)) count ∙ sym other.view
 
-pub adds_few : (least next : ℕ) (view last : View) (lines later : List View) → AddsSight least view last next lines later → length later ≤ length lines + 1
-adds_few least next view last lines later (inl added) = (let long = length-append lines (view ∷ []) in omega (arith, ap length added.0, long))
-adds_few least next view last lines later (inr stays) = omega (arith, ap length stays.0)
+pub adds_few : (least below next : ℕ) (view : View) (lines later : List View) → AddsSight least view below next lines later → length later ≤ length lines + 1
+adds_few least below next view lines later (inl added) = (let long = length-append lines (view ∷ []) in omega (arith, ap length added.0, long))
+adds_few least below next view lines later (inr stays) = omega (arith, ap length stays.0)
 
--- the notes before this place have their lines, and what comes next has no fewer entries than the last line
-pub record AreLined {N : Type 0} (S : State) (h : List Entry) (stands : N → List Entry) (notes : List N) (m least : ℕ) (lines : List View) : Type 0 where
-  pub lined : (k : ℕ) (n : N) → k < m → slice_get notes k ≡ Some n → length (stands n) < length h → HasLine S (stands n) lines
+-- of what was noted the view is that of the history that the note stands for, and of a beginning of this history where it has few entries
+pub noted_sight : {N : Type 0} (B : Recorded) (h : List Entry) (most : ℕ) (log : N → List (Told Recorded Entry)) (notes : List N) (k : ℕ) (n : N) (v : View) → AreBeginnings B h most log notes → slice_get notes k ≡ Some n → v ≡ view_of (opening B.opening) (history (log n))
+    → v.entries < most → IsSightOf (opening B.opening) h v
+noted_sight B h most log notes k n v are at is less =
+    let S = opening B.opening in
+    let count : v.entries ≡ length (history (log n)) = ap (λ (w : View). w.entries) is ∙ entries_of S (history (log n)) in
+    sight S (history (log n)) h v ((are k n at).1 (omega (arith, less, count))) is
+
+-- the notes before this place have their lines, each line is of one of the notes, and what comes next has no fewer entries than the last line
+pub record AreLined {N : Type 0} (S : State) (most : ℕ) (stands : N → List Entry) (notes : List N) (m least : ℕ) (lines : List View) : Type 0 where
+  pub lined : (k : ℕ) (n : N) → k < m → slice_get notes k ≡ Some n → length (stands n) < most → HasLine S (stands n) lines
+  pub noted : (i : ℕ) (w : View) → slice_get lines i ≡ Some w → (k : ℕ) × (n : N) × (slice_get notes k ≡ Some n) × (w ≡ view_of S (stands n))
   pub next : (k : ℕ) (n : N) → m ≤ k → slice_get notes k ≡ Some n → least ≤ length (stands n) + 1
   pub top : (least ≡ 0) ⊎ ((i : ℕ) × (w : View) × (slice_get lines i ≡ Some w) × (w.entries + 1 ≡ least))
 
-pub lined_none : {N : Type 0} (S : State) (h : List Entry) (stands : N → List Entry) (notes : List N) → AreLined S h stands notes 0 0 []
-lined_none S h stands notes = record {
-  lined = λ k n low at below. absurd (omega (arith, low));
+pub lined_none : {N : Type 0} (S : State) (most : ℕ) (stands : N → List Entry) (notes : List N) → AreLined S most stands notes 0 0 []
+lined_none S most stands notes = record {
+  lined = λ k n low at few. absurd (omega (arith, low));
+  noted = λ i w at. absurd (cc at);
   next = λ k n le at. omega arith;
   top = inl refl;
 }
 
-module _ {N : Type 0} (S : State) (h : List Entry) (stands : N → List Entry) (notes : List N) (m least next : ℕ) (lines later : List View) (v last : View) (note : N)
-    (here : slice_get notes m ≡ Some note) (is : v ≡ view_of S (stands note)) (sees : v.entries < length h → IsSightOf S h v)
+get_snoc : {X : Type 0} (xs : List X) (y : X) (i : ℕ) (x : X) → slice_get (xs ++ y ∷ []) i ≡ Some x → (slice_get xs i ≡ Some x) ⊎ ((i ≡ length xs) × (y ≡ x))
+get_snoc [] y zero x at = inr (refl, cc at)
+get_snoc [] y (suc i) x at = absurd (cc at)
+get_snoc (z ∷ xs) y zero x at = inl at
+get_snoc (z ∷ xs) y (suc i) x at = ⊎_elim (λ (a : slice_get xs i ≡ Some x). inl a) (λ (b : (i ≡ length xs) × (y ≡ x)). inr (omega (arith, b.0), b.1)) (get_snoc xs y i x at)
+
+module _ {N : Type 0} (S : State) (h : List Entry) (most : ℕ) (stands : N → List Entry) (notes : List N) (m least next : ℕ) (lines later : List View) (v : View) (note : N)
+    (here : slice_get notes m ≡ Some note) (is : v ≡ view_of S (stands note)) (sees : v.entries < most → IsSightOf S h v)
     (rises : (k : ℕ) (n : N) → m ≤ k → slice_get notes k ≡ Some n → length (stands note) ≤ length (stands n))
-    (whole : last.entries ≡ length h) (few : length lines ≤ m) (short : length notes ≤ 63)
-    (each : (i : ℕ) (w : View) → slice_get lines i ≡ Some w → IsSightOf S h w) (on : AreLined S h stands notes m least lines) where
+    (few : length lines ≤ m) (short : length notes ≤ 63)
+    (each : (i : ℕ) (w : View) → slice_get lines i ≡ Some w → IsSightOf S h w) (on : AreLined S most stands notes m least lines) where
   count : v.entries ≡ length (stands note)
   count = ap (λ (w : View). w.entries) is ∙ entries_of S (stands note)
 
@@ -124,38 +137,53 @@ module _ {N : Type 0} (S : State) (h : List Entry) (stands : N → List Entry) (
   same_note n k last at = (let there : slice_get notes m ≡ Some n = ap (slice_get notes) (sym last) ∙ at in cc (here, there))
 
   -- a view that is no line of its own is one already, or is not to be one
-  stands_already : (n : N) → note ≡ n → length (stands n) < length h → (v.entries < least) ⊎ ((last.entries ≤ v.entries) ⊎ (63 ≤ length lines)) → HasLine S (stands n) lines
-  stands_already n same below (inl low) = ⊎_elim
+  stands_already : (n : N) → note ≡ n → length (stands n) < most → (v.entries < least) ⊎ ((most ≤ v.entries) ⊎ (63 ≤ length lines)) → HasLine S (stands n) lines
+  stands_already n same low_count (inl low) = ⊎_elim
       (λ (none : least ≡ 0). absurd (omega (arith, none, low)))
       (λ (top : (i : ℕ) × (w : View) × (slice_get lines i ≡ Some w) × (w.entries + 1 ≡ least)).
       let next = on.next m note (omega arith) here in
       let equal : top.1.entries ≡ v.entries = omega (arith, top.3, low, next, count) in
-      let less : v.entries < length h = (let e : length (stands note) ≡ length (stands n) = ap (λ (x : N). length (stands x)) same in omega (arith, count, e, below)) in
+      let less : v.entries < most = (let e : length (stands note) ≡ length (stands n) = ap (λ (x : N). length (stands x)) same in omega (arith, count, e, low_count)) in
       subst (λ (x : N). HasLine S (stands x) lines) same (top.0, top.2 ∙ ap Some (same_sights S h top.1 v (each top.0 top.1 top.2) (sees less) equal ∙ is)))
       on.top
-  stands_already n same below (inr (inl long)) = absurd (let e : length (stands note) ≡ length (stands n) = ap (λ (x : N). length (stands x)) same in omega (arith, long, below, whole, count, e))
-  stands_already n same below (inr (inr full)) = absurd (let low = get_within notes m note here in omega (arith, full, few, short, low))
+  stands_already n same low_count (inr (inl long)) = absurd (let e : length (stands note) ≡ length (stands n) = ap (λ (x : N). length (stands x)) same in omega (arith, long, low_count, count, e))
+  stands_already n same low_count (inr (inr full)) = absurd (let low = get_within notes m note here in omega (arith, full, few, short, low))
 
-  pub lined_more : AddsSight least v last next lines later → AreLined S h stands notes (m + 1) next later
+  pub lined_more : AddsSight least v most next lines later → AreLined S most stands notes (m + 1) next later
   lined_more (inl added) = record {
-    lined = λ k n low at below. subst (HasLine S (stands n)) (sym added.0) (⊎_elim
-        (λ (old : k < m). line_stays S (stands n) lines (v ∷ []) (on.lined k n old at below))
+    lined = λ k n low at low_count. subst (HasLine S (stands n)) (sym added.0) (⊎_elim
+        (λ (old : k < m). line_stays S (stands n) lines (v ∷ []) (on.lined k n old at low_count))
         (λ (new : k ≡ m). (length lines, get_next lines v ∙ ap Some (is ∙ ap (λ (x : N). view_of S (stands x)) (same_note n k new at))))
         (low_or_last k m low));
+    noted = λ i w at. ⊎_elim
+        (λ (old : slice_get lines i ≡ Some w). on.noted i w old)
+        (λ (new : (i ≡ length lines) × (v ≡ w)). (m, note, here, sym new.1 ∙ is))
+        (get_snoc lines v i w (subst (λ (l : List View). slice_get l i ≡ Some w) added.0 at));
     next = λ k n le at. (let more = rises k n (omega (arith, le)) at in omega (arith, more, count, added.1));
     top = inr (length lines, v, subst (λ (l : List View). slice_get l (length lines) ≡ Some v) (sym added.0) (get_next lines v), sym added.1);
   }
   lined_more (inr stays) = record {
-    lined = λ k n low at below. subst (HasLine S (stands n)) (sym stays.0) (⊎_elim
-        (λ (old : k < m). on.lined k n old at below)
-        (λ (new : k ≡ m). stands_already n (same_note n k new at) below stays.2)
+    lined = λ k n low at low_count. subst (HasLine S (stands n)) (sym stays.0) (⊎_elim
+        (λ (old : k < m). on.lined k n old at low_count)
+        (λ (new : k ≡ m). stands_already n (same_note n k new at) low_count stays.2)
         (low_or_last k m low));
+    noted = λ i w at. on.noted i w (subst (λ (l : List View). slice_get l i ≡ Some w) stays.0 at);
     next = λ k n le at. (let more = on.next k n (omega (arith, le)) at in omega (arith, more, stays.1));
     top = subst (λ (l : List View). (next ≡ 0) ⊎ ((i : ℕ) × (w : View) × (slice_get l i ≡ Some w) × (w.entries + 1 ≡ next))) (sym stays.0)
         (subst (λ (n : ℕ). (n ≡ 0) ⊎ ((i : ℕ) × (w : View) × (slice_get lines i ≡ Some w) × (w.entries + 1 ≡ n))) (sym stays.1) on.top);
   }
 
--- with the last line all have theirs
-pub lined_end : {N : Type 0} (S : State) (h : List Entry) (stands : N → List Entry) (notes : List N) (m least : ℕ) (lines : List View) (last : View) → length notes ≤ m → AreLined S h stands notes m least lines → HaveLines S h stands notes (lines ++ last ∷ [])
-lined_end S h stands notes m least lines last all on k n at below =
-    line_stays S (stands n) lines (last ∷ []) (on.lined k n (let low = get_within notes k n at in omega (arith, low, all)) at below)
+module _ {N : Type 0} (S : State) (most : ℕ) (stands : N → List Entry) (notes : List N) (m least : ℕ) (lines : List View) (last : View) where
+  -- with the last line all have theirs
+  pub lined_end : length notes ≤ m → AreLined S most stands notes m least lines → HaveLines S most stands notes (lines ++ last ∷ [])
+  lined_end all on k n at low_count =
+      line_stays S (stands n) lines (last ∷ []) (on.lined k n (let low = get_within notes k n at in omega (arith, low, all)) at low_count)
+
+  -- and the lines before it are of notes
+  pub noted_end : AreLined S most stands notes m least lines → AreOfNotes S stands notes (lines ++ last ∷ [])
+  noted_end on i v at before =
+      let long : length (lines ++ last ∷ []) ≡ length lines + 1 = length-append lines (last ∷ []) in
+      ⊎_elim
+      (λ (old : slice_get lines i ≡ Some v). on.noted i v old)
+      (λ (new : (i ≡ length lines) × (last ≡ v)). absurd (omega (arith, new.0, before, long)))
+      (get_snoc lines last i v at)

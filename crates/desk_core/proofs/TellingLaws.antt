@@ -1,6 +1,6 @@
 -- What the desk tells a board of a legal history.
-use Rattle.std.proofs.Common.{◌≡◌, ◌≢◌, ℕ, zero, suc, ◌+◌, List, [], ◌∷◌, ◌++◌, length, take, drop, refl, sym, ap, ◌∙◌, subst, arith, length-append, append_assoc}
-use Rattle.std.specs.Prelude.{Option, Some, None, slice_get, Result, Ok, Err, OnOk}
+use Rattle.std.proofs.Common.{◌≡◌, ◌≢◌, ℕ, zero, suc, true, ◌⊎◌, inl, inr, ◌+◌, ◌≤◌, List, [], ◌∷◌, ◌++◌, length, take, drop, refl, sym, ap, ◌∙◌, subst, arith, length-append, append_assoc}
+use Rattle.std.specs.Prelude.{Option, Some, None, slice_get, Result, Ok, Err, OnOk, OnErr, is_err}
 use Rattle.std.proofs.lemmas.List.{take_at, drop_at, append-nil, take-append-drop}
 use mathlib.Core.List.{IsPrefix}
 use Rattle.turn_book.proofs.Chains.{legal_beginning}
@@ -13,7 +13,8 @@ use Rattle.desk_core.specs.Turned.{Replies}
 use Rattle.desk_core.proofs.TurnedLaws.{turn_legal, desk_legal}
 use Rattle.live_board.specs.declared.told.Told.{Told}
 use Rattle.live_board.specs.Histories.{history, origin, tells, AreNext}
-use Rattle.live_board.proofs.Tellings.{history_grows, origin_same}
+use Rattle.live_board.proofs.Tellings.{history_grows, origin_same, histories_begin}
+use Rattle.live_board.proofs.Beginnings.{prefix_length}
 use Rattle.desk_model.specs.Views.{Follows}
 use Rattle.desk_core.specs.Posts.{HasTold}
 
@@ -82,3 +83,24 @@ none_left B h log n told count none =
 pub all_of : {T E : Type 0} (r : Result T E) (P Q : Type 0) → (P → Q) → OnOk r P → OnOk r Q
 all_of (Ok x) P Q f p = f p
 all_of (Err e) P Q f p = tt
+
+-- an answer is one of the two
+pub either_way : {T E : Type 0} (r : Result T E) (P Q : Type 0) → OnOk r P → OnErr r Q → P ⊎ (Q × (is_err r ≡ true))
+either_way (Ok x) P Q p q = inl p
+either_way (Err e) P Q p q = inr (q, refl)
+
+pub err_so : {T E : Type 0} (r : Result T E) (Q : Type 0) → OnErr r Q → is_err r ≡ true → Q
+err_so (Ok x) Q q is = absurd cc
+err_so (Err e) Q q is = q
+
+-- where the rest was told, or nothing more, no less is told than before
+pub told_more : {T E : Type 0} (r : Result T E) (B : Recorded) (h : List Entry) (log later : List (Told Recorded Entry)) → HasTold B h log → OnOk r (history later ≡ h) → OnErr r (later ≡ log) → length (history log) ≤ length (history later)
+told_more (Ok x) B h log later told all none = (let few = prefix_length (history log) h told.1 in omega (arith, few, ap length all))
+told_more (Err e) B h log later told all none = omega (arith, ap (λ (l : List (Told Recorded Entry)). length (history l)) none)
+
+-- who has seen a log that begins with what was told has seen a history that begins with so many entries of the whole
+pub saw_told : (B : Recorded) (h : List Entry) (count : ℕ) (told last : List (Told Recorded Entry)) → HasTold B h told → count ≡ length (history told) → IsPrefix told last → IsPrefix (take count h) (history last)
+saw_told B h count told last from counted p =
+    let g = history told in
+    let there : take count h ≡ g = ap (λ (n : ℕ). take n h) counted ∙ (ap (take (length g)) (sym from.1.1) ∙ take_at g from.1.0 (length g) refl) in
+    subst (λ (l : List Entry). IsPrefix l (history last)) (sym there) (histories_begin told last p)

@@ -7,15 +7,28 @@ ghost use Rattle.desk_core.specs.Posts.{posted};
 
 use crate::posted::Posted;
 use crate::sight::Sight;
-use live_board::{Naming, Teller};
-use std::sync::Wait;
+use desk_model::View;
+use live_board::{Naming, Sightings, Teller};
 
-/// Publishes on a board what the desk sees of the history.
-#[derive(Drop)]
-pub struct BoardTelling<J: Naming, R: Wait + Drop> {
-    pub(crate) teller: Teller<Sight, Posted, J, R>,
+/// Publishes on a board what the desk sees of the history. It can't be dropped: it ends in `end`, or in `leave` where there is nothing
+/// to report, and both wait for those that still read.
+pub struct BoardTelling<J: Naming> {
+    pub(crate) teller: Teller<Sight, Posted, J>,
     /// How many entries are published.
     pub(crate) told: u32,
+    /// Whether memory ran out for a tell. From then on nothing more is told.
+    pub(crate) cut: bool,
     ghost counted: { told ≡ length (history (told_by teller)) },
     ghost shown: { IsShown posted teller },
+}
+
+/// What a viewer saw of a history until its end, and what is reported of that.
+#[derive(Drop)]
+pub struct Watched {
+    /// A view for each line, the last one that of the whole history.
+    pub lines: Vec<View>,
+    /// What the viewer saw.
+    pub sightings: Sightings<Sight>,
+    /// How many entries the viewer was told: fewer than there are where memory ran out for a tell.
+    pub told: u32,
 }

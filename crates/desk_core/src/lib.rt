@@ -45,17 +45,17 @@
 //! How the desk tells viewers of its history while a team works.
 //!
 //!     let opened = Opened::new(&book);                              // a board, at the book as it stands
-//!     let (teller, mut viewers) = opened.open::<Posted, J, _>(rt, alloc, 1)?;   // J names it
+//!     let (teller, mut viewers) = opened.open::<Posted, J>(alloc, 1)?;   // J names it
 //!     let mut telling = BoardTelling::new(teller);
-//!     telling.tell_more(rt, alloc, &turn, &mut pass)?;              // all that the pass then sees is published
-//!     let lines = telling.end(alloc, &book, viewer, &notes)?;       // what was seen is reported
+//!     telling.tell_more(rt, alloc, &turn, &mut pass);               // all that the pass then sees is published
+//!     let watched = telling.end(rt, alloc, &book, watcher)?;        // what was seen is reported
 //!
 //! A board shows the `View` of desk_model, as a `Sight`. `BoardTelling` publishes on a board of live_board; `TellsNobody` is in its
 //! place where nobody watches.
 //!
-//! Proved: what is published is a beginning of the history that was seen; and what is reported of what was seen are views of
-//! beginnings of the journal, each of more entries than the one before it, and the last is that of the whole. Of up to 63 notes,
-//! each later than the one before it, none is left out.
+//! Proved: what is published is a beginning of the history that was seen. What is reported are the views of what the watcher noted, none
+//! of up to 63 left out, and none that it did not note, each of more entries than the one before it; and then that of the whole, which the
+//! watcher saw last, unless memory ran out for a tell.
 #![tactic(auto)]
 
 mod board_telling;
@@ -78,13 +78,13 @@ mod telling;
 mod tidy;
 mod turned;
 
-pub use board_telling::BoardTelling;
+pub use board_telling::{BoardTelling, Watched};
 pub use book::Book;
 pub use choice::fallback;
 pub use desk_eval::Evaluator;
 pub use desk_model::{Answer, Batch, Broken, Entry, Event, Grains, Move, Which};
 pub use followed::follow;
-pub use lines::{MOST_SIGHTS, seen_lines};
+pub use lines::MOST_SIGHTS;
 pub use posted::Posted;
 pub use search::Search;
 pub use sight::Sight;

@@ -15,8 +15,8 @@ pub struct Sight {
     pub view: View,
 }
 
-// The view of a book's journal.
-fn view_of_book(book: &Book) -> View
+/// The view of a book's journal.
+pub(crate) fn view_of_book(book: &Book) -> View
     ensures { result ≡ view_of (opening book.now.opening) book.now.journal }
 {
     let broken = book.broken();

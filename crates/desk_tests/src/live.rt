@@ -3,4 +3,3 @@
 mod most;
 mod tests;
 mod threads;
-mod two;

@@ -41,12 +41,11 @@ impl<S: Summary> Opened<S> {
     /// The teller, and so many viewers, 1 to 64, each of which has seen the opening. A viewer whose place is refused lives by its
     /// notes alone. The only error is out of memory, and then there is no board. One operation waits to be published from then on,
     /// which shows the opening once more: the room that it has taken serves the operations of later tells.
-    pub fn open<T: Boarded<S>, J: Naming, R: Wait + Drop>(
+    pub fn open<T: Boarded<S>, J: Naming>(
         self,
-        rt: R,
         alloc: Global,
         viewers: u32,
-    ) -> Result<(Teller<S, T, J, R>, Vec<Viewer<S, T, J>>), NoMem>
+    ) -> Result<(Teller<S, T, J>, Vec<Viewer<S, T, J>>), NoMem>
         requires viewers { (1 ≤ viewers) × (viewers ≤ 64) }
         requires board { board_of self ≡ J.book }
         ensures teller { IfOk result (λ t. told_by t.0 ≡ opening_log self) }
@@ -81,7 +80,6 @@ impl<S: Summary> Opened<S> {
                     of: PhantomData,
                 },
                 failed: false,
-                rt,
             },
             all,
         ))
@@ -115,10 +113,10 @@ fn seat_viewers<S: Summary, T: Boarded<S>, J: Naming>(
     all
 }
 
-impl<S: Summary, T: Boarded<S>, J: Naming, R: Wait + Drop> Teller<S, T, J, R> {
-    /// Publishes these entries behind what is published, all at once. After `NoMem` nothing is published, nothing more
+impl<S: Summary, T: Boarded<S>, J: Naming> Teller<S, T, J> {
+    /// Publishes these entries behind what is published, all at once, once nobody reads any more what was published before. After `NoMem` nothing is published, nothing more
     /// waits to be published, and each later call answers `NoMem` too.
-    pub fn tell(&mut self, entries: &[S::Item]) -> Result<(), NoMem>
+    pub fn tell<R: Wait>(&mut self, rt: &R, entries: &[S::Item]) -> Result<(), NoMem>
         requires next { AreNext S.follows (told_by self.old) entries.now }
         requires shown { IsShown T.log self.old }
         ensures shown { IsShown T.log self.new }
@@ -131,13 +129,13 @@ impl<S: Summary, T: Boarded<S>, J: Naming, R: Wait + Drop> Teller<S, T, J, R> {
         if self.failed {
             return Err(NoMem);
         }
-        let told = self.tell_once(entries);
+        let told = self.tell_once(rt, entries);
         self.failed = told.is_err();
         told
     }
 
     /// Publishes these entries. After `NoMem` the record may have gone on, so that no later call succeeds.
-    fn tell_once(&mut self, entries: &[S::Item]) -> Result<(), NoMem>
+    fn tell_once<R: Wait>(&mut self, rt: &R, entries: &[S::Item]) -> Result<(), NoMem>
         requires next { AreNext S.follows (told_by self.old) entries.now }
         requires shown { IsShown T.log self.old }
         ensures shown { IsShown T.log self.new }
@@ -154,7 +152,7 @@ impl<S: Summary, T: Boarded<S>, J: Naming, R: Wait + Drop> Teller<S, T, J, R> {
         let Some(writer) = self.writer.take() else {
             unreachable!()
         };
-        let (writer, published) = publish::<S, T, J, R>(&self.rt, writer, T::new(&next));
+        let (writer, published) = publish::<S, T, J, R>(rt, writer, T::new(&next));
         let nothing = self.writer.replace(writer);
         let None = nothing else { unreachable!() };
         match published {
@@ -177,6 +175,18 @@ impl<S: Summary, T: Boarded<S>, J: Naming, R: Wait + Drop> Teller<S, T, J, R> {
             shown: self.last.shown.again(),
             of: PhantomData,
         }
+    }
+
+    /// Ends the board, once nobody reads any more. Viewers then live by their notes.
+    pub fn end<R: Wait>(self, rt: &R) {
+        let Self {
+            head: _,
+            writer,
+            last: _,
+            failed: _,
+        } = self;
+        let Some(writer) = writer else { unreachable!() };
+        drop(writer.take(rt));
     }
 }
 

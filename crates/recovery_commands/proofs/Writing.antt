@@ -20,12 +20,17 @@ use Rattle.desk_tasks.specs.Tasks.{team as by_team}
 use Rattle.desk_tasks.specs.Done.{IsDoneSomehow}
 use Rattle.history_texts.proofs.HistoryTexts.{unwatched}
 use Rattle.recovery_commands.specs.declared.team.Team.{Team}
-use Rattle.recovery_commands.specs.Closing.{team_of, IsTeamBook}
+use Rattle.recovery_commands.specs.Closing.{team_of, IsTeamBook, IsSeenOf}
+use Rattle.desk_core.specs.declared.board_telling.Watched.{Watched}
 use Rattle.recovery_commands.proofs.Closing.{team_work, unwatched_nothing, watched_seen}
 
 -- each view of those that were seen is of a beginning
 all_seen : (S : State) (h : List Entry) (seen : List View) → AreSeen S h seen → All (IsSightOf S h) seen
 all_seen S h seen are i d lt = are.each i (get_or seen i d) (slice_get-get_or seen i d lt)
+
+-- what was seen of the history of a book of this day
+pub seen_on : (I : Situation) (B : Recorded) (w : Watched) → B.opening ≡ I → IsSeenOf B w → AreSeen (opening I) B.journal w.lines.items
+seen_on I B w same of = subst (λ (J : Situation). AreSeen (opening J) B.journal w.lines.items) same of.seen
 
 pub can_be_reported : (I : Situation) (B : Recorded) (seen lines : List View) → lines ≡ seen → B.opening ≡ I → AreSeen (opening I) B.journal seen → All (IsSightOf (opening B.opening) B.journal) lines
 can_be_reported I B seen lines is same are =

@@ -1,5 +1,11 @@
 -- The book of a day that a team searched.
-use Rattle.std.specs.Prelude.{◌≡◌, List, Option, Some, None}
+use Rattle.std.specs.Prelude.{◌≡◌, ◌≤◌, List, Option, Some, None, length, take}
+use mathlib.Core.List.{IsPrefix}
+use Rattle.live_board.specs.Histories.{history}
+use Rattle.live_board.specs.Words.{shows, noted_in, last_in}
+use Rattle.desk_model.specs.Views.{AreSeen}
+use Rattle.desk_core.specs.Sights.{below, HaveLines, AreOfNotes}
+use Rattle.desk_core.specs.declared.board_telling.Watched.{Watched}
 use Rattle.day_orders.specs.declared.orders.Batch.{Batch}
 use Rattle.desk_data.specs.Situation.{Situation}
 use Rattle.desk_model.specs.States.{opening}
@@ -30,3 +36,12 @@ pub record IsTeamBook (I : Situation) (batches : List Batch) (team : Team) (B : 
   pub legal : IsLegal (opening I) B.journal
   pub teamwork : IsTeamwork team.workers team.moves team.live (opening I) batches B.journal
   pub ended : IsTeamEnd I team.moves B.journal reported
+
+-- what is reported is what one viewer saw of the history of the book: it saw last at least what it was told, each line but the last is of what it noted when it looked, and none that it noted
+-- is left out that has fewer entries than the whole and no more than it was told
+pub record IsSeenOf (B : Recorded) (w : Watched) : Type 0 where
+  pub told : w.told ≤ length B.journal
+  pub saw : IsPrefix (take w.told B.journal) (history (last_in w.sightings))
+  pub seen : AreSeen (opening B.opening) B.journal w.lines.items
+  pub each : HaveLines (opening B.opening) (below w.told B.journal) (λ n. history (shows n)) (noted_in w.sightings) w.lines.items
+  pub noted : AreOfNotes (opening B.opening) (λ n. history (shows n)) (noted_in w.sightings) w.lines.items

@@ -1,6 +1,6 @@
 //! Batches that the desk has taken.
 
-ghost use Rattle.std.specs.Prelude.{◌≡◌, List as Items, All, IfOk, OnOk};
+ghost use Rattle.std.specs.Prelude.{◌≡◌, ◌⊎◌, List as Items, All, IfOk};
 ghost use mathlib.Core.List.{IsPrefix};
 ghost use Rattle.desk_data.specs.Valid.{IsBatch};
 ghost use Rattle.desk_model.specs.declared.answer.Entry.{Entry as Record};
@@ -63,7 +63,7 @@ fn take_one<R: Wait>(
 }
 
 /// Tells what is new, enters the gate as worker 0 with this number, and has a batch taken, as caller 0. The only error is out of
-/// memory, and then the batch has no entry.
+/// memory, and then the batch has no entry. Where memory runs out for the tell, nobody is told of it, and the batch is taken.
 pub(crate) fn take_batch<R: Wait, G: Gate, T: Telling>(
     rt: &R,
     alloc: Global,
@@ -82,9 +82,9 @@ pub(crate) fn take_batch<R: Wait, G: Gate, T: Telling>(
     ensures began { IsPrefix (seen pass.old) (seen pass.new) }
     ensures taken { HasTaken (day_of turn.now) batch.now (known pass.old) (known pass.new) result }
     ensures can { T.can telling.new (first_book turn.now) (seen pass.new) }
-    ensures told { OnOk result ((h : Items Record) × IsPrefix (seen pass.old) h × IsPrefix h (seen pass.new) × T.told telling.new (first_book turn.now) h) }
+    ensures told { (h : Items Record) × IsPrefix (seen pass.old) h × IsPrefix h (seen pass.new) × (T.told telling.new (first_book turn.now) h ⊎ T.cut telling.new) }
 {
-    telling.tell_more(rt, alloc, turn, pass)?;
+    telling.tell_more(rt, alloc, turn, pass);
     gate.enter(0, number);
     take_one(rt, alloc, turn, pass, batch)
 }
@@ -108,7 +108,7 @@ pub(crate) fn take_batches<R: Wait, G: Gate, T: Telling>(
     ensures began { IsPrefix (seen pass) (seen result.0) }
     ensures taken { IfOk result.1 (HasTakenAll batches.now (known pass) (known result.0)) }
     ensures can { T.can result.2 (first_book turn.now) (seen result.0) }
-    ensures told { IfOk result.1 (λ came. came ≡ intake.Taken → T.told result.2 (first_book turn.now) (seen result.0)) }
+    ensures told { IfOk result.1 (λ came. came ≡ intake.Taken → T.told result.2 (first_book turn.now) (seen result.0) ⊎ T.cut result.2) }
 {
     let mut number: u32 = 0;
     for batch in batches {
@@ -130,8 +130,6 @@ pub(crate) fn take_batches<R: Wait, G: Gate, T: Telling>(
             Intake::Full => return (pass, Ok(Intake::Full), telling),
         }
     }
-    match telling.tell_more(rt, alloc, turn, &mut pass) {
-        Ok(()) => (pass, Ok(Intake::Taken), telling),
-        Err(_) => (pass, Err(NoMem), telling),
-    }
+    telling.tell_more(rt, alloc, turn, &mut pass);
+    (pass, Ok(Intake::Taken), telling)
 }

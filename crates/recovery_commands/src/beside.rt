@@ -1,6 +1,6 @@
 //! Batches that are taken while the workers make rounds.
 
-ghost use Rattle.std.specs.Prelude.{◌≡◌, ◌<◌, true, [], ◌∷◌, List as Items, length, All, vec_len, IfOk, OnOk, MatchOption};
+ghost use Rattle.std.specs.Prelude.{◌≡◌, ◌⊎◌, ◌<◌, true, [], ◌∷◌, List as Items, length, All, vec_len, IfOk, MatchOption};
 ghost use mathlib.Core.List.{IsPrefix};
 ghost use Rattle.day_orders.specs.declared.orders.Batch.{Batch as Orders};
 ghost use Rattle.desk_data.specs.Valid.{IsBatch};
@@ -84,16 +84,14 @@ pub(crate) fn told_rounds<R: Threads + Wait + Sync, G: Gate, T: Telling>(
     ensures gained { HasGained budget (length (seen pass)) (known pass) (known result.1) workers.items result.0.items }
     ensures voted { IfOk result.2 (IsVoteOf budget (day_of turn.now) (vec_len workers) (seen result.1)) }
     ensures can { T.can telling.new (first_book turn.now) (seen result.1) }
-    ensures told { OnOk result.2 ((h : Items Record) × IsPrefix (seen pass) h × IsPrefix h (seen result.1) × T.told telling.new (first_book turn.now) h) }
+    ensures told { (h : Items Record) × IsPrefix (seen pass) h × IsPrefix h (seen result.1) × (T.told telling.new (first_book turn.now) h ⊎ T.cut telling.new) }
 {
-    let Ok(()) = telling.tell_more(rt, alloc, turn, &mut pass) else {
-        return (workers, pass, Err(NoMem));
-    };
+    telling.tell_more(rt, alloc, turn, &mut pass);
     own_rounds(rt, alloc, workers, turn, pass, gate, budget)
 }
 
 /// Has batches taken, with a pass of its own, while the workers make rounds until they agree.
-fn take_and_search<R: Threads + Wait + Sync, G: Gate, T: Telling + Send + Drop>(
+fn take_and_search<R: Threads + Wait + Sync, G: Gate, T: Telling + Send>(
     rt: &R,
     alloc: Global,
     workers: Vec<Worker>,
@@ -153,7 +151,7 @@ fn take_and_search<R: Threads + Wait + Sync, G: Gate, T: Telling + Send + Drop>(
 }
 
 /// Has batches taken while the workers make rounds, and goes on with rounds until the workers agree.
-fn beside<R: Threads + Wait + Sync, G: Gate, T: Telling + Send + Drop>(
+fn beside<R: Threads + Wait + Sync, G: Gate, T: Telling + Send>(
     rt: &R,
     alloc: Global,
     workers: Vec<Worker>,
@@ -220,7 +218,7 @@ fn first_and_others(batches: &[Batch]) -> Option<(&Batch, &[Batch])>
 
 /// Has the first batch taken, the others while the workers make rounds, and goes on with rounds until the workers
 /// agree.
-pub(crate) fn live<R: Threads + Wait + Sync, G: Gate, T: Telling + Send + Drop>(
+pub(crate) fn live<R: Threads + Wait + Sync, G: Gate, T: Telling + Send>(
     rt: &R,
     alloc: Global,
     workers: Vec<Worker>,

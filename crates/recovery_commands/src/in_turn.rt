@@ -21,7 +21,7 @@ use std::thread::Threads;
 use turn_book::{Pass, Turn};
 
 /// Has batches taken one after another, each followed by rounds until the workers agree.
-pub(crate) fn in_turn<R: Threads + Wait + Sync, G: Gate, T: Telling + Drop>(
+pub(crate) fn in_turn<R: Threads + Wait + Sync, G: Gate, T: Telling>(
     rt: &R,
     alloc: Global,
     mut workers: Vec<Worker>,

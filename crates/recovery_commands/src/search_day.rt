@@ -50,7 +50,7 @@ pub fn recover_by_team<R: Threads + Wait + Sync, F: Folder, O: Sink, G: Gate>(
                     alloc,
                     &done.book,
                     done.ended,
-                    day.seen.as_slice(),
+                    day.watched.lines.as_slice(),
                     folder,
                     out,
                 )

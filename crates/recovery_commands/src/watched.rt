@@ -1,31 +1,28 @@
 //! A day that a team searches while a viewer watches a board.
 
-ghost use Rattle.std.specs.Prelude.{◌≡◌, ◌<◌, ◌≤◌, [], ◌∷◌, length, All, vec_len, vec_capacity, IfOk};
+ghost use Rattle.std.specs.Prelude.{◌≡◌, ◌<◌, ◌≤◌, [], ◌∷◌, length, All, vec_len, IfOk};
 ghost use mathlib.Core.List.{IsPrefix};
 ghost use Rattle.desk_data.specs.Situation.{fresh_day};
 ghost use Rattle.desk_data.specs.Valid.{IsBatch};
-ghost use Rattle.desk_model.specs.States.{opening};
 ghost use Rattle.turn_book.specs.Passes.{first_book, known, seen, made, name, out, IsPassOf};
 ghost use Rattle.desk_core.specs.Turned.{opening_of};
 ghost use Rattle.live_board.specs.Histories.{opens};
-ghost use Rattle.live_board.specs.Watched.{AreRising, EndsAt};
-ghost use Rattle.live_board.specs.Words.{board_of, opening_log, seen_by, stands_for};
-ghost use Rattle.desk_model.specs.Views.{AreSeen};
+ghost use Rattle.live_board.specs.Watched.{AreNotes, EndsAt};
+ghost use Rattle.live_board.specs.Words.{board_of, opening_log, seen_with, noted_by, room_of, shows, board_shown};
 ghost use Rattle.desk_core.specs.Posts.{HasTold};
 ghost use Rattle.desk_core.specs.Told.{told_to};
 ghost use Rattle.desk_pool.specs.Workers.{day_of, AreAllShards, CanAllSearch};
 ghost use Rattle.desk_pool.specs.Laps.{IsReturned};
 ghost use Rattle.recovery_commands.specs.Running.{IsTeamRun};
-ghost use Rattle.recovery_commands.specs.Closing.{IsTeamBook};
+ghost use Rattle.recovery_commands.specs.Closing.{IsTeamBook, IsSeenOf};
 
 use crate::searched::Searched;
 use crate::team::{Team, TeamBook, close_day, search};
-use desk_core::{BoardTelling, Book, MOST_SIGHTS, Posted, Sight, Telling};
+use desk_core::{BoardTelling, Book, MOST_SIGHTS, Posted, Sight, Telling, Watched};
 use desk_data::{Batch, Instance, NoMem};
 use desk_folder::Gate;
-use desk_model::View;
 use desk_pool::{Worker, open_workers};
-use live_board::{Naming, Note, Opened, Viewer, watch};
+use live_board::{Naming, Opened, Watcher, watch};
 use std::alloc::Global;
 use std::marker::Brand;
 use std::sync::Wait;
@@ -37,11 +34,11 @@ use turn_book::{Pass, Turn};
 #[derive(Drop)]
 pub(crate) struct WatchedDay {
     pub done: TeamBook,
-    pub seen: Vec<View>,
+    pub watched: Watched,
 }
 
 // Has the batches taken and searched after, and then says that it ended.
-fn search_and_end<R: Threads + Wait + Sync, G: Gate, T: Telling + Send + Drop>(
+fn search_and_end<R: Threads + Wait + Sync, G: Gate, T: Telling + Send>(
     rt: &R,
     alloc: Global,
     workers: Vec<Worker>,
@@ -72,12 +69,7 @@ fn search_and_end<R: Threads + Wait + Sync, G: Gate, T: Telling + Send + Drop>(
 }
 
 // Searches the day of a turn by a team while a viewer watches, and notes what it sees.
-fn search_watched<
-    J: Naming + Send + Sync,
-    R: Threads + Wait + Sync,
-    G: Gate,
-    T: Telling + Send + Drop,
->(
+fn search_watched<J: Naming + Send + Sync, R: Threads + Wait + Sync, G: Gate, T: Telling + Send>(
     rt: &R,
     alloc: Global,
     workers: Vec<Worker>,
@@ -87,10 +79,9 @@ fn search_watched<
     batches: &[Batch],
     team: Team,
     telling: T,
-    viewer: Viewer<Sight, Posted, J>,
-    notes: Vec<Note<Sight, J>>,
+    watcher: Watcher<Sight, Posted, J>,
 ) -> (
-    (Viewer<Sight, Posted, J>, Vec<Note<Sight, J>>),
+    Watcher<Sight, Posted, J>,
     (Pass<Book>, Result<Searched, NoMem>, T),
 )
     requires some { 0 < vec_len workers }
@@ -101,12 +92,12 @@ fn search_watched<
     requires batches { 0 < length batches.now }
     requires start { (seen pass ≡ []) × (made pass ≡ []) }
     requires can { T.can telling (first_book turn.now) (seen pass) }
-    requires notes { notes.items ≡ [] }
-    requires room { vec_capacity notes ≡ 63 }
-    ensures behind { All (λ n. IsPrefix (stands_for n) (seen_by result.0.0)) result.0.1.items }
-    ensures rising { AreRising stands_for result.0.1.items }
-    ensures few { length result.0.1.items ≤ 63 }
-    ensures noted { length result.0.1.items < 63 → EndsAt stands_for (seen_by result.0.0) result.0.1.items }
+    requires notes { AreNotes board_shown shows J.book (seen_with watcher) (noted_by watcher) }
+    requires room { room_of watcher ≡ 63 }
+    ensures notes { AreNotes board_shown shows J.book (seen_with result.0) (noted_by result.0) }
+    ensures room { room_of result.0 ≡ 63 }
+    ensures began { IsPrefix (noted_by watcher) (noted_by result.0) }
+    ensures noted { length (noted_by result.0) < 63 → EndsAt shows (seen_with result.0) (noted_by result.0) }
     ensures of { IsPassOf opening_of turn.now result.1.0 }
     ensures returned { IsReturned (known pass) (known result.1.0) }
     ensures can { T.can result.1.2 (first_book turn.now) (seen result.1.0) }
@@ -117,14 +108,14 @@ fn search_watched<
     // made: the first one.
     join(
         rt,
-        || -> (Viewer<Sight, Posted, J>, Vec<Note<Sight, J>>)
-            requires notes { notes.items ≡ [] }
-            requires room { vec_capacity notes ≡ 63 }
-            ensures behind { All (λ n. IsPrefix (stands_for n) (seen_by result.0)) result.1.items }
-            ensures rising { AreRising stands_for result.1.items }
-            ensures few { length result.1.items ≤ 63 }
-            ensures noted { length result.1.items < 63 → EndsAt stands_for (seen_by result.0) result.1.items }
-        { watch(rt, viewer, notes, &ended) },
+        || -> Watcher<Sight, Posted, J>
+            requires notes { AreNotes board_shown shows J.book (seen_with watcher) (noted_by watcher) }
+            requires room { room_of watcher ≡ 63 }
+            ensures notes { AreNotes board_shown shows J.book (seen_with result) (noted_by result) }
+            ensures room { room_of result ≡ 63 }
+            ensures began { IsPrefix (noted_by watcher) (noted_by result) }
+            ensures noted { length (noted_by result) < 63 → EndsAt shows (seen_with result) (noted_by result) }
+        { watch(rt, watcher, &ended) },
         || -> (Pass<Book>, Result<Searched, NoMem>, T)
             requires some { 0 < vec_len workers }
             requires shards { AreAllShards workers.items }
@@ -156,9 +147,8 @@ fn watch_turn<J: Naming + Send + Sync, R: Threads + Wait + Sync, G: Gate>(
     gate: &G,
     batches: &[Batch],
     team: Team,
-    telling: BoardTelling<J, &R>,
-    viewer: Viewer<Sight, Posted, J>,
-    notes: Vec<Note<Sight, J>>,
+    telling: BoardTelling<J>,
+    watcher: Watcher<Sight, Posted, J>,
 ) -> Result<WatchedDay, NoMem>
     requires some { 0 < vec_len workers }
     requires size { vec_len workers ≡ team.workers }
@@ -172,20 +162,21 @@ fn watch_turn<J: Naming + Send + Sync, R: Threads + Wait + Sync, G: Gate>(
     requires start { (seen pass ≡ []) × (made pass ≡ []) }
     requires first { (name pass ≡ []) × (out pass ≡ []) }
     requires can { HasTold (first_book turn) (seen pass) (told_to telling) }
-    requires notes { notes.items ≡ [] }
-    requires room { vec_capacity notes ≡ 63 }
-    ensures { IfOk result (λ day. IsTeamBook (day_of turn) batches.now team day.done.book day.done.ended × AreSeen (opening (day_of turn)) day.done.book.journal day.seen.items) }
+    requires notes { AreNotes board_shown shows J.book (seen_with watcher) (noted_by watcher) }
+    requires room { room_of watcher ≡ 63 }
+    ensures { IfOk result (λ day. IsTeamBook (day_of turn) batches.now team day.done.book day.done.ended × IsSeenOf day.done.book day.watched) }
 {
-    let ((viewer, notes), (pass, searched, telling)) = search_watched(
-        rt, alloc, workers, &turn, pass, gate, batches, team, telling, viewer, notes,
+    let (watcher, (pass, searched, telling)) = search_watched(
+        rt, alloc, workers, &turn, pass, gate, batches, team, telling, watcher,
     );
     let Ok(came) = searched else {
+        telling.leave(rt);
         let _book = turn.close(pass);
         return Err(NoMem);
     };
     let done = close_day(turn, pass, batches, team, came);
-    let seen = telling.end(alloc, &done.book, viewer, notes.as_slice())?;
-    Ok(WatchedDay { done, seen })
+    let watched = telling.end(rt, alloc, &done.book, watcher)?;
+    Ok(WatchedDay { done, watched })
 }
 
 // Opens the board of a book, and has the book's day searched while a viewer watches.
@@ -205,23 +196,29 @@ fn watch_book<J: Naming + Send + Sync, R: Threads + Wait + Sync, G: Gate>(
     requires some { 1 ≤ length batches.now }
     requires few { length batches.now ≤ 1001 }
     requires team { (1 ≤ team.workers) × (team.workers ≤ 64) }
-    ensures { IfOk result (λ day. IsTeamBook book.opening batches.now team day.done.book day.done.ended × AreSeen (opening book.opening) day.done.book.journal day.seen.items) }
+    ensures { IfOk result (λ day. IsTeamBook book.opening batches.now team day.done.book day.done.ended × IsSeenOf day.done.book day.watched) }
 {
-    let Ok((teller, mut viewers)) = opened.open::<Posted, J, &R>(rt, alloc, 1) else {
+    let workers = open_workers(alloc, team.workers, &book)?;
+    let Ok((teller, mut viewers)) = opened.open::<Posted, J>(alloc, 1) else {
         return Err(NoMem);
     };
     let Some(viewer) = viewers.pop() else {
         unreachable!()
     };
     let telling = BoardTelling::new(teller);
-    let notes = Vec::with_capacity(alloc, MOST_SIGHTS)?;
-    let workers = open_workers(alloc, team.workers, &book)?;
+    let Ok(watcher) = Watcher::new(alloc, viewer, MOST_SIGHTS) else {
+        telling.leave(rt);
+        return Err(NoMem);
+    };
     let (turn, pass) = match Turn::open(alloc, book) {
         Ok(opened) => opened,
-        Err(_) => return Err(NoMem),
+        Err(_) => {
+            telling.leave(rt);
+            return Err(NoMem);
+        }
     };
     watch_turn(
-        rt, alloc, workers, turn, pass, gate, batches, team, telling, viewer, notes,
+        rt, alloc, workers, turn, pass, gate, batches, team, telling, watcher,
     )
 }
 
@@ -241,7 +238,7 @@ pub(crate) fn watch_day<R: Threads + Wait + Sync, G: Gate>(
     requires some { 1 ≤ length batches.now }
     requires few { length batches.now ≤ 1001 }
     requires team { (1 ≤ team.workers) × (team.workers ≤ 64) }
-    ensures { IfOk result (λ day. IsTeamBook inst batches.now team day.done.book day.done.ended × AreSeen (opening inst) day.done.book.journal day.seen.items) }
+    ensures { IfOk result (λ day. IsTeamBook inst batches.now team day.done.book day.done.ended × IsSeenOf day.done.book day.watched) }
 {
     let book = Book::open(alloc, inst)?;
     let opened = Opened::new(&book);

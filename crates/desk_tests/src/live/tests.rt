@@ -29,7 +29,7 @@ fn tell_and_see<J: Naming + Send + Sync, R: Threads + Wait + Abort + Sync>(
     requires board { board_of opened ≡ J.book }
     requires fresh { length (history (opening_log opened)) < 100 }
 {
-    let Ok((teller, mut viewers)) = opened.open::<Posted, J, &R>(rt, alloc, 1) else {
+    let Ok((teller, mut viewers)) = opened.open::<Posted, J>(alloc, 1) else {
         panic!(rt; "no memory")
     };
     let Some(viewer) = viewers.pop() else {
@@ -38,15 +38,15 @@ fn tell_and_see<J: Naming + Send + Sync, R: Threads + Wait + Abort + Sync>(
     let saw = AtomicU64::new(0);
     let ((teller, told), (mut viewer, one, all)) = join(
         rt,
-        || -> (Teller<Most, Posted, J, &R>, Result<(), NoMem>)
+        || -> (Teller<Most, Posted, J>, Result<(), NoMem>)
             requires room { length (history (told_by teller)) < 100 }
             requires shown { IsShown (λ (p : Posted). p.0.seen.log) teller }
-        { tell_two(teller, &saw) },
+        { tell_two(rt, teller, &saw) },
         || see_both(viewer, &saw),
     );
     viewer.learn(teller.note());
     let last = viewer.see();
-    drop(teller);
+    teller.end(rt);
     assert!(rt; told.is_ok());
     assert_eq!(rt; (one.entries, one.largest), (1, 5));
     assert_eq!(rt; (all.entries, all.largest), (3, 9));
@@ -67,19 +67,19 @@ fn see_from_all_places<J: Naming, R: Wait + Abort>(
     requires board { board_of opened ≡ J.book }
     requires fresh { length (history (opening_log opened)) < 100 }
 {
-    let Ok((mut teller, mut viewers)) = opened.open::<Posted, J, &R>(rt, alloc, 64) else {
+    let Ok((mut teller, mut viewers)) = opened.open::<Posted, J>(alloc, 64) else {
         panic!(rt; "no memory")
     };
-    let Ok(()) = teller.tell(&[5]) else {
+    let Ok(()) = teller.tell(rt, &[5]) else {
         panic!(rt; "no memory")
     };
     // A viewer without a place sees none: it was told of nothing.
     let one = all_see(viewers.as_mut_slice(), 1);
     all_learn(viewers.as_mut_slice(), &teller);
-    let told = teller.tell(&[3, 9]);
+    let told = teller.tell(rt, &[3, 9]);
     // Nor does one that gave its place up once it had learnt.
     let three = all_see(viewers.as_mut_slice(), 3);
-    drop(teller);
+    teller.end(rt);
     assert!(rt; told.is_ok());
     assert_eq!(rt; (one, three), (true, true));
     Ok(())

@@ -15,19 +15,20 @@ use std::thread::yield_now;
 const MOST_LOOKS: u32 = 10_000_000;
 
 /// Tells one number, and two more once the first was seen.
-pub fn tell_two<J: Naming, R: Wait + Drop>(
-    teller: Teller<Most, Posted, J, R>,
+pub fn tell_two<J: Naming, R: Wait>(
+    rt: &R,
+    teller: Teller<Most, Posted, J>,
     saw: &AtomicU64,
-) -> (Teller<Most, Posted, J, R>, Result<(), NoMem>)
+) -> (Teller<Most, Posted, J>, Result<(), NoMem>)
     requires room { length (history (told_by teller)) < 100 }
     requires shown { IsShown (λ (p : Posted). p.0.seen.log) teller }
 {
     let mut teller = teller;
-    let Ok(()) = teller.tell(&[5]) else {
+    let Ok(()) = teller.tell(rt, &[5]) else {
         return (teller, Err(NoMem));
     };
     wait_until_seen(saw);
-    let told = teller.tell(&[3, 9]);
+    let told = teller.tell(rt, &[3, 9]);
     (teller, told)
 }
 
@@ -77,9 +78,9 @@ pub fn all_see<J: Naming>(viewers: &mut [Viewer<Most, Posted, J>], entries: u32)
 }
 
 /// Has each viewer learn what is published.
-pub fn all_learn<J: Naming, R: Wait + Drop>(
+pub fn all_learn<J: Naming>(
     viewers: &mut [Viewer<Most, Posted, J>],
-    teller: &Teller<Most, Posted, J, R>,
+    teller: &Teller<Most, Posted, J>,
 ) {
     for viewer in viewers.iter_mut() {
         viewer.learn(teller.note());

@@ -60,9 +60,10 @@ fn nothing(alloc: Global) -> Batch
 }
 
 /// Has the book take a batch, and tells the board what is new.
-fn take_and_tell<J: Naming, R: Wait + Drop>(
+fn take_and_tell<J: Naming, R: Wait>(
+    rt: &R,
     alloc: Global,
-    telling: &mut BoardTelling<J, R>,
+    telling: &mut BoardTelling<J>,
     book: &mut Book,
     batch: &Batch,
 ) -> Result<(), Fail>
@@ -71,15 +72,16 @@ fn take_and_tell<J: Naming, R: Wait + Drop>(
     ensures told { OnOk result ((B : Recorded) × (B.opening ≡ book.new.opening) × HasTold B book.new.journal (told_to telling.new)) }
 {
     book.intake(alloc, 0, batch)?;
-    telling.tell_rest(book)?;
+    telling.tell_rest(rt, book)?;
     Ok(())
 }
 
 /// What the second of two viewers sees before anything is told, and once the leg that is called off was told; what the first sees that
 /// learns of that; and what the second sees once the next batch was told too.
-fn views_of<J: Naming, R: Wait + Drop>(
+fn views_of<J: Naming, R: Wait>(
+    rt: &R,
     alloc: Global,
-    telling: &mut BoardTelling<J, R>,
+    telling: &mut BoardTelling<J>,
     book: &mut Book,
     told: &mut Viewer<Sight, Posted, J>,
     held: &mut Viewer<Sight, Posted, J>,
@@ -88,33 +90,34 @@ fn views_of<J: Naming, R: Wait + Drop>(
 {
     let opening = held.see().view;
     let batch = called_off(alloc, book.instance())?;
-    take_and_tell(alloc, telling, book, &batch)?;
+    take_and_tell(rt, alloc, telling, book, &batch)?;
     let first = held.see().view;
     told.learn(telling.note());
     let learnt = told.see().view;
-    take_and_tell(alloc, telling, book, &nothing(alloc))?;
+    take_and_tell(rt, alloc, telling, book, &nothing(alloc))?;
     let second = held.see().view;
     Ok([opening, first, learnt, second])
 }
 
 /// The same of two viewers of these.
-fn views_among<J: Naming, R: Wait + Drop>(
+fn views_among<J: Naming, R: Wait>(
+    rt: &R,
     alloc: Global,
-    telling: &mut BoardTelling<J, R>,
+    telling: &mut BoardTelling<J>,
     book: &mut Book,
     viewers: &mut [Viewer<Sight, Posted, J>],
 ) -> Result<[View; 4], Fail>
     requires told { (B : Recorded) × (B.opening ≡ book.old.opening) × HasTold B book.old.journal (told_to telling.old) }
 {
     match viewers {
-        [held, told] => views_of(alloc, telling, book, told, held),
+        [held, told] => views_of(rt, alloc, telling, book, told, held),
         _ => Err(Fail::new("there are not two viewers")),
     }
 }
 
 /// The same of the board that was opened on a book, with two viewers.
-fn views_on<J: Naming, R: Wait + Drop>(
-    rt: R,
+fn views_on<J: Naming, R: Wait>(
+    rt: &R,
     alloc: Global,
     opened: Opened<Sight>,
     book: &mut Book,
@@ -123,13 +126,15 @@ fn views_on<J: Naming, R: Wait + Drop>(
     requires log { opening_log opened ≡ opens book.old [] ∷ [] }
     requires empty { book.old.journal ≡ [] }
 {
-    let (teller, mut viewers) = opened.open::<Posted, J, R>(rt, alloc, 2)?;
+    let (teller, mut viewers) = opened.open::<Posted, J>(alloc, 2)?;
     let mut telling = BoardTelling::new(teller);
-    views_among(alloc, &mut telling, book, viewers.as_mut_slice())
+    let views = views_among(rt, alloc, &mut telling, book, viewers.as_mut_slice());
+    telling.leave(rt);
+    views
 }
 
 /// The same of the board of the book of the day.
-fn views_of_day<R: Wait + Drop>(rt: R, alloc: Global) -> Result<[View; 4], Fail> {
+fn views_of_day<R: Wait>(rt: &R, alloc: Global) -> Result<[View; 4], Fail> {
     let mut book = Book::open(alloc, day_of(alloc, &[], VIEWED)?)?;
     let opened = Opened::new(&book);
     views_on::<Brand, R>(rt, alloc, opened, &mut book)

@@ -1,58 +1,64 @@
-use Rattle.std.proofs.Common.{◌≡◌, ◌<◌, length, arith, refl, sym, subst, List}
+use Rattle.std.proofs.Common.{◌≡◌, ◌<◌, ◌≤◌, length, arith, refl, sym, subst, List}
 use Rattle.std.specs.Prelude.{Some, slice_get}
 use Rattle.std.proofs.lemmas.Option.{slice_get_read}
+use Rattle.desk_model.specs.declared.answer.Entry.{Entry}
 use Rattle.desk_model.specs.States.{opening}
 use Rattle.desk_core.specs.Recorded.{Recorded}
-use Rattle.live_board.specs.Histories.{history, origin}
-use Rattle.live_board.specs.Words.{stands_for}
+use Rattle.live_board.specs.Histories.{history}
+use Rattle.live_board.specs.Words.{shows}
 use Rattle.live_board.proofs.Beginnings.{prefix_length}
 use Rattle.live_board.proofs.Tellings.{histories_begin}
 use Rattle.desk_model.specs.declared.view.View.{View}
-use Rattle.desk_model.specs.Views.{AreSeen, IsSightOf}
-use Rattle.desk_model.proofs.SightLaws.{sights_end}
-use Rattle.desk_core.specs.Sights.{HaveLines}
-use Rattle.desk_core.proofs.LineLaws.{told_last, told_count, from_both, fewer_sight, rising_to, adds_few, lined_none, lined_more, lined_end}
+use Rattle.desk_model.specs.Views.{AreSeen, IsSightOf, view_of}
+use Rattle.desk_model.proofs.SightLaws.{sights_end, no_sights}
+use Rattle.desk_core.specs.Sights.{AreBeginnings, HaveLines, AreOfNotes}
+use Rattle.desk_core.proofs.LineLaws.{told_last, noted_sight, rising_to, adds_few, lined_none, lined_more, lined_end, noted_end}
 use Rattle.desk_core.proofs.lines.seen_lines.Goals as goal
+
+pub loop-note-init : goal.loop-note-init
+loop-note-init g c = (
+  omega arith,
+  omega arith,
+  (λ B h are. no_sights (opening B.opening) h 0),
+  omega arith,
+  (λ B h are rising short. lined_none (opening B.opening) c.args.below (λ n. history (shows n)) c.args.notes.now),
+)
 
 pub loop-note-preserved : goal.loop-note-preserved
 loop-note-preserved g c =
-    let note = c.note-item.result in
+    let note = c.note-item.result.now in
     let notes = c.args.notes.now in
-    let log = stands_for c.args.last.now in
-    let both = stands_for c.later-both.result in
-    let whole = c.view.result in
-    let one = c.view-in-loop-note.result in
+    let view = note.view.view in
     let m = c.loop-note.note-index in
     let on = c.loop-note.invariant in
     let lines = c.loop-note.lines.items in
-    let few = adds_few c.loop-note.least c.in_ok-least.least one.view whole.view lines c.add_sight.new.lines.items c.in_ok-least.ensures.added in
+    let few = adds_few c.loop-note.least c.args.below c.in_ok-least.least view lines c.add_sight.new.lines.items c.in_ok-least.ensures.added in
     let here : slice_get notes m ≡ Some note = slice_get_read notes (length notes) m note refl c.loop-note-test.true c.note-item.is in
-    let sees : (B : Recorded) → origin log ≡ Some B → one.view.entries < whole.view.entries → IsSightOf (opening B.opening) (history log) one.view = λ B from.
-    fewer_sight B (stands_for note) log both one whole from c.view-in-loop-note.ensures.opened c.later-both.ensures.this c.later-both.ensures.that c.view-in-loop-note.ensures.view c.view.ensures.view in (
+    let is : (B : Recorded) (h : List Entry) → AreBeginnings B h c.args.below shows notes → view ≡ view_of (opening B.opening) (history (shows note)) = λ B h are. told_last B (shows note) note.view (are m note here).0 note.viewed in
+    let sees : (B : Recorded) (h : List Entry) → AreBeginnings B h c.args.below shows notes → view.entries < c.args.below → IsSightOf (opening B.opening) h view = λ B h are. noted_sight B h c.args.below shows notes m note view are here (is B h are) in (
       c.in_ok-least.ensures.least,
       c.in_ok-least.ensures.few,
-      (λ B from. c.in_ok-least.ensures.seen (opening B.opening) (history log) (on.2 B from) (sees B from)),
+      (λ B h are. c.in_ok-least.ensures.seen (opening B.opening) h (on.2 B h are) (sees B h are)),
       omega (arith, few, on.3),
-      (λ B from rising short.
-          let S = opening B.opening in
-          let h = history log in
-          let is = told_last B (stands_for note) one (from_both B (stands_for note) log both from c.view-in-loop-note.ensures.opened c.later-both.ensures.this c.later-both.ensures.that) c.view-in-loop-note.ensures.view in
-          let count = told_count B log whole from c.view.ensures.view in
-          lined_more S h (λ n. history (stands_for n)) notes m c.loop-note.least c.in_ok-least.least lines c.add_sight.new.lines.items one.view whole.view note here is
-          (λ less. sees B from (omega (arith, less, count)))
-          (λ k n le at. prefix_length (history (stands_for note)) (history (stands_for n)) (histories_begin (stands_for note) (stands_for n) (rising_to stands_for notes m k note n rising here at le)))
-          count on.3 short (on.2 B from).each (on.4 B from rising short) c.in_ok-least.ensures.added),
+      (λ B h are rising short.
+          lined_more (opening B.opening) h c.args.below (λ n. history (shows n)) notes m c.loop-note.least c.in_ok-least.least lines c.add_sight.new.lines.items view note here (is B h are) (sees B h are)
+          (λ k n le at. prefix_length (history (shows note)) (history (shows n)) (histories_begin (shows note) (shows n) (rising_to shows notes m k note n rising here at le)))
+          on.3 short (on.2 B h are).each (on.4 B h are rising short) c.in_ok-least.ensures.added),
     )
 
 pub returns-clause-seen : goal.returns-clause-seen
-returns-clause-seen g c B from =
-    let log = stands_for c.args.last.now in
-    subst (λ (l : List View). AreSeen (opening B.opening) (history log) l) (sym c.in_ok-push.ensures.items)
-    (sights_end (opening B.opening) (history log) c.loop-note.least c.loop-note.lines.items c.view.result.view (c.loop-note.invariant.2 B from) c.loop-note.invariant.1 c.loop-note.invariant.0 (told_last B log c.view.result from c.view.ensures.view))
+returns-clause-seen g c B h is are =
+    subst (λ (l : List View). AreSeen (opening B.opening) h l) (sym c.in_ok-push.ensures.items)
+    (sights_end (opening B.opening) h c.loop-note.least c.loop-note.lines.items c.args.whole (c.loop-note.invariant.2 B h are) c.loop-note.invariant.1 (omega (arith, c.loop-note.invariant.0, c.requires)) is)
 
 pub returns-clause-each : goal.returns-clause-each
-returns-clause-each g c B from rising short =
-    let log = stands_for c.args.last.now in
-    subst (λ (l : List View). HaveLines (opening B.opening) (history log) (λ n. history (stands_for n)) c.args.notes.now l) (sym c.in_ok-push.ensures.items)
-    (lined_end (opening B.opening) (history log) (λ n. history (stands_for n)) c.args.notes.now c.loop-note.note-index c.loop-note.least c.loop-note.lines.items c.view.result.view
-    (omega (arith, c.loop-note-test.false)) (c.loop-note.invariant.4 B from rising short))
+returns-clause-each g c B h are rising short =
+    subst (λ (l : List View). HaveLines (opening B.opening) c.args.below (λ n. history (shows n)) c.args.notes.now l) (sym c.in_ok-push.ensures.items)
+    (lined_end (opening B.opening) c.args.below (λ n. history (shows n)) c.args.notes.now c.loop-note.note-index c.loop-note.least c.loop-note.lines.items c.args.whole
+    (omega (arith, c.loop-note-test.false)) (c.loop-note.invariant.4 B h are rising short))
+
+pub returns-clause-noted_only : goal.returns-clause-noted_only
+returns-clause-noted_only g c B h are rising short =
+    subst (λ (l : List View). AreOfNotes (opening B.opening) (λ n. history (shows n)) c.args.notes.now l) (sym c.in_ok-push.ensures.items)
+    (noted_end (opening B.opening) c.args.below (λ n. history (shows n)) c.args.notes.now c.loop-note.note-index c.loop-note.least c.loop-note.lines.items c.args.whole
+    (c.loop-note.invariant.4 B h are rising short))

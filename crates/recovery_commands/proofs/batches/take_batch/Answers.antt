@@ -3,7 +3,6 @@ use Rattle.turn_book.specs.Passes.{first_book, known, seen}
 use Rattle.turn_book.proofs.Prefixes.{prefix_trans}
 use Rattle.desk_pool.specs.Workers.{day_of}
 use Rattle.recovery_commands.proofs.Taking.{has_none, looked_none, taken_later}
-use Rattle.recovery_commands.proofs.Watching.{so_anyway}
 use Rattle.recovery_commands.proofs.batches.take_batch.Goals as goal
 
 pub returns-clause-tags : goal.returns-clause-tags
@@ -21,4 +20,4 @@ returns-clause-can g c = g.met.T.Telling.longer c.tell_more.new.self (first_book
 -- the history that was told
 pub returns-clause-told : goal.returns-clause-told
 returns-clause-told g c =
-    so_anyway c.take_one.result _ (seen c.tell_more.new.pass, c.tell_more.ensures.looked.began, c.take_one.ensures.began, c.in_ok-tell_more.ensures.all)
+    (seen c.tell_more.new.pass, c.tell_more.ensures.looked.began, c.take_one.ensures.began, c.tell_more.ensures.told)

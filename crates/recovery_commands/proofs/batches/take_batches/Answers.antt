@@ -33,8 +33,8 @@ loop-batch-preserved g c = record {
 }
 
 -- once all are taken it is told, which takes none
-pub returns-in-Ok-tell_more-clause-taken : goal.returns-in-Ok-tell_more-clause-taken
-returns-in-Ok-tell_more-clause-taken g c = record {
+pub returns-clause-taken : goal.returns-clause-taken
+returns-clause-taken g c = record {
   count = c.loop-batch.batch-index;
   few = c.loop-batch.auto.batch-index-end;
   all = λ e. omega (arith, c.loop-batch-test.false, c.loop-batch.auto.batch-index-end);
@@ -45,5 +45,5 @@ returns-in-Ok-tell_more-clause-taken g c = record {
 pub returns-in-Full-clause-told : goal.returns-in-Full-clause-told
 returns-in-Full-clause-told g c = λ e. absurd cc
 
-pub returns-in-Ok-tell_more-clause-told : goal.returns-in-Ok-tell_more-clause-told
-returns-in-Ok-tell_more-clause-told g c = λ same. c.in-Ok-tell_more.ensures.all
+pub returns-clause-told : goal.returns-clause-told
+returns-clause-told g c = λ same. c.tell_more.ensures.told

@@ -4,15 +4,10 @@ use Rattle.desk_pool.specs.Workers.{day_of}
 use Rattle.desk_pool.proofs.Gaining.{returned_on}
 use Rattle.recovery_commands.proofs.Longer.{all_longer, gained_later, gained_looked}
 use Rattle.recovery_commands.proofs.Running.{returned_by}
-use Rattle.recovery_commands.proofs.Watching.{so_anyway}
 use Rattle.recovery_commands.proofs.beside.told_rounds.Goals as goal
 
 pub own_rounds-requires-clause-ready : goal.own_rounds-requires-clause-ready
 own_rounds-requires-clause-ready g c κs within = all_longer (day_of c.args.turn.now) c.args.workers.items (seen c.args.pass) (seen c.tell_more.new.pass) c.requires.ready c.tell_more.ensures.looked.began
-
--- memory ran out when it told
-pub returns-in_default-clause-ready : goal.returns-in_default-clause-ready
-returns-in_default-clause-ready g c = all_longer (day_of c.args.turn.now) c.args.workers.items (seen c.args.pass) (seen c.tell_more.new.pass) c.requires.ready c.tell_more.ensures.looked.began
 
 pub returns-clause-returned : goal.returns-clause-returned
 returns-clause-returned g c = returned_on (known c.args.pass) (known c.tell_more.new.pass) (known c.own_rounds.result.1) (returned_by (known c.args.pass) (known c.tell_more.new.pass) c.tell_more.ensures.looked.tags) c.own_rounds.ensures.returned
@@ -29,4 +24,4 @@ returns-clause-can g c = g.met.T.Telling.longer c.tell_more.new.self (first_book
 -- the history that was told
 pub returns-clause-told : goal.returns-clause-told
 returns-clause-told g c =
-    so_anyway c.own_rounds.result.2 _ (seen c.tell_more.new.pass, c.tell_more.ensures.looked.began, c.own_rounds.ensures.began, c.in-Ok.ensures.all)
+    (seen c.tell_more.new.pass, c.tell_more.ensures.looked.began, c.own_rounds.ensures.began, c.tell_more.ensures.told)

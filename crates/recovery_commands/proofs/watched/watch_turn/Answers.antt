@@ -6,18 +6,12 @@ use Rattle.recovery_commands.proofs.Watching.{told_journal}
 use Rattle.recovery_commands.proofs.watched.watch_turn.Goals as goal
 
 pub close-book-requires-clause-all : goal.close-book-requires-clause-all
-close-book-requires-clause-all g c κs = all_in (known c.args.pass) (known c.search_watched-viewer.result.1.0) c.requires.first.1 c.search_watched-viewer.ensures.returned
+close-book-requires-clause-all g c κs = all_in (known c.args.pass) (known c.search_watched-watcher.result.1.0) c.requires.first.1 c.search_watched-watcher.ensures.returned
 
 pub close_day-done-requires-clause-all : goal.close_day-done-requires-clause-all
-close_day-done-requires-clause-all g c = all_in (known c.args.pass) (known c.search_watched-viewer.result.1.0) c.requires.first.1 c.search_watched-viewer.ensures.returned
+close_day-done-requires-clause-all g c = all_in (known c.args.pass) (known c.search_watched-watcher.result.1.0) c.requires.first.1 c.search_watched-watcher.ensures.returned
 
 pub end-requires-clause-told : goal.end-requires-clause-told
 end-requires-clause-told g c =
     let B = first_book c.args.turn in
-    (B, sym c.close_day-done.ensures.day.same, told_journal B (seen c.search_watched-viewer.result.1.0) c.close_day-done.result.book.journal (told_to c.search_watched-viewer.result.1.2) c.close_day-done.ensures.journal c.search_watched-viewer.ensures.can)
-
-pub end-requires-clause-rising : goal.end-requires-clause-rising
-end-requires-clause-rising g c = rw c.as_slice.ensures.value c.search_watched-viewer.ensures.rising
-
-pub end-requires-clause-few : goal.end-requires-clause-few
-end-requires-clause-few g c = rw c.as_slice.ensures.value c.search_watched-viewer.ensures.few
+    (B, sym c.close_day-done.ensures.day.same, told_journal B (seen c.search_watched-watcher.result.1.0) c.close_day-done.result.book.journal (told_to c.search_watched-watcher.result.1.2) c.close_day-done.ensures.journal c.search_watched-watcher.ensures.can)
