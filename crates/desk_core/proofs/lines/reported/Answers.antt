@@ -11,10 +11,10 @@ use Rattle.desk_core.specs.Sights.{below, AreBeginnings, HaveLines, AreOfNotes}
 use Rattle.desk_core.proofs.lines.reported.Goals as goal
 
 pub seen_lines-requires : goal.seen_lines-requires
-seen_lines-requires g c = omega (arith, c.below-few.ensures)
+seen_lines-requires c = omega (arith, c.below-few.ensures)
 
 pub returns-clause-seen : goal.returns-clause-seen
-returns-clause-seen g c B same are =
+returns-clause-seen c B same are =
     let h = c.args.book.now.journal in
     let whole = c.view_of_book-whole.result in
     let few : c.below-few.result ≡ below c.args.told h = c.below-few.ensures ∙ ap (min (c.args.told + 1)) (ap (λ (v : View). v.entries) c.view_of_book-whole.ensures ∙ entries_of (opening c.args.book.now.opening) h) in
@@ -23,7 +23,7 @@ returns-clause-seen g c B same are =
     subst (λ (S : State). IfOk c.seen_lines.result (λ lines. AreSeen S h lines.items)) (ap opening same) (c.seen_lines.ensures.seen B h is there)
 
 pub returns-clause-each : goal.returns-clause-each
-returns-clause-each g c B same are rising short =
+returns-clause-each c B same are rising short =
     let h = c.args.book.now.journal in
     let few : c.below-few.result ≡ below c.args.told h = c.below-few.ensures ∙ ap (min (c.args.told + 1)) (ap (λ (v : View). v.entries) c.view_of_book-whole.ensures ∙ entries_of (opening c.args.book.now.opening) h) in
     let there : AreBeginnings B h c.below-few.result shows c.firsts.result.now = rw (few, c.firsts.ensures) are in
@@ -31,7 +31,7 @@ returns-clause-each g c B same are rising short =
     rw (sym (ap opening same), sym few, sym c.firsts.ensures) lines
 
 pub returns-clause-noted_only : goal.returns-clause-noted_only
-returns-clause-noted_only g c B same are rising short =
+returns-clause-noted_only c B same are rising short =
     let h = c.args.book.now.journal in
     let few : c.below-few.result ≡ below c.args.told h = c.below-few.ensures ∙ ap (min (c.args.told + 1)) (ap (λ (v : View). v.entries) c.view_of_book-whole.ensures ∙ entries_of (opening c.args.book.now.opening) h) in
     let there : AreBeginnings B h c.below-few.result shows c.firsts.result.now = rw (few, c.firsts.ensures) are in

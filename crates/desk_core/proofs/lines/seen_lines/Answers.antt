@@ -15,18 +15,9 @@ use Rattle.desk_core.specs.Sights.{AreBeginnings, HaveLines, AreOfNotes}
 use Rattle.desk_core.proofs.LineLaws.{told_last, noted_sight, rising_to, adds_few, lined_none, lined_more, lined_end, noted_end}
 use Rattle.desk_core.proofs.lines.seen_lines.Goals as goal
 
-pub loop-note-init : goal.loop-note-init
-loop-note-init g c = (
-  omega arith,
-  omega arith,
-  (λ B h are. no_sights (opening B.opening) h 0),
-  omega arith,
-  (λ B h are rising short. lined_none (opening B.opening) c.args.below (λ n. history (shows n)) c.args.notes.now),
-)
-
 pub loop-note-preserved : goal.loop-note-preserved
-loop-note-preserved g c =
-    let note = c.note-item.result.now in
+loop-note-preserved c =
+    let note = c.note-item.result in
     let notes = c.args.notes.now in
     let view = note.view.view in
     let m = c.loop-note.note-index in
@@ -47,18 +38,18 @@ loop-note-preserved g c =
     )
 
 pub returns-clause-seen : goal.returns-clause-seen
-returns-clause-seen g c B h is are =
+returns-clause-seen c B h is are =
     subst (λ (l : List View). AreSeen (opening B.opening) h l) (sym c.in_ok-push.ensures.items)
     (sights_end (opening B.opening) h c.loop-note.least c.loop-note.lines.items c.args.whole (c.loop-note.invariant.2 B h are) c.loop-note.invariant.1 (omega (arith, c.loop-note.invariant.0, c.requires)) is)
 
 pub returns-clause-each : goal.returns-clause-each
-returns-clause-each g c B h are rising short =
+returns-clause-each c B h are rising short =
     subst (λ (l : List View). HaveLines (opening B.opening) c.args.below (λ n. history (shows n)) c.args.notes.now l) (sym c.in_ok-push.ensures.items)
     (lined_end (opening B.opening) c.args.below (λ n. history (shows n)) c.args.notes.now c.loop-note.note-index c.loop-note.least c.loop-note.lines.items c.args.whole
     (omega (arith, c.loop-note-test.false)) (c.loop-note.invariant.4 B h are rising short))
 
 pub returns-clause-noted_only : goal.returns-clause-noted_only
-returns-clause-noted_only g c B h are rising short =
+returns-clause-noted_only c B h are rising short =
     subst (λ (l : List View). AreOfNotes (opening B.opening) (λ n. history (shows n)) c.args.notes.now l) (sym c.in_ok-push.ensures.items)
     (noted_end (opening B.opening) c.args.below (λ n. history (shows n)) c.args.notes.now c.loop-note.note-index c.loop-note.least c.loop-note.lines.items c.args.whole
     (c.loop-note.invariant.4 B h are rising short))

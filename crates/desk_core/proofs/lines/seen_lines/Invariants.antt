@@ -11,7 +11,7 @@ use Rattle.desk_core.proofs.LineLaws.{AreLined}
 use Rattle.desk_core.proofs.lines.seen_lines.Given as goal
 
 abbrev pub invariant-loop-note : goal.invariant-loop-note
-invariant-loop-note g l = (l.least ≤ l.below) × (length l.lines.items ≤ 63)
+invariant-loop-note l = (l.least ≤ l.below) × (length l.lines.items ≤ 63)
     × ((B : Recorded) (h : List Entry) → AreBeginnings B h l.below shows l.notes → AreSightsBelow (opening B.opening) h l.least l.lines.items)
     × (length l.lines.items ≤ l.note-index)
     × ((B : Recorded) (h : List Entry) → AreBeginnings B h l.below shows l.notes → AreRising shows l.notes → length l.notes ≤ 63

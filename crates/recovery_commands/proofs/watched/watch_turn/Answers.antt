@@ -15,3 +15,8 @@ pub end-requires-clause-told : goal.end-requires-clause-told
 end-requires-clause-told g c =
     let B = first_book c.args.turn in
     (B, sym c.close_day-done.ensures.day.same, told_journal B (seen c.search_watched-watcher.result.1.0) c.close_day-done.result.book.journal (told_to c.search_watched-watcher.result.1.2) c.close_day-done.ensures.journal c.search_watched-watcher.ensures.can)
+
+pub returns : goal.returns
+returns g c =
+    let w = c.in_ok-watched.ensures in
+    (c.close_day-done.ensures.day, record { told = w.told.1; saw = w.saw; seen = w.seen; each = w.each; noted = w.noted_only })

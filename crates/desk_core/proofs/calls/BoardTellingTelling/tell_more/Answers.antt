@@ -26,8 +26,8 @@ returns-clause-told g c =
     c.publish.ensures.all in
     ⊎_elim
     (λ (told : history (told_to c.publish.new.self) ≡ h). inl told)
-    (λ (stays : (told_to c.publish.new.self ≡ told_to c.args.self.now) × (is_err c.publish.result ≡ true)). inr (c.is_err.ensures ∙ stays.1))
+    (λ (stays : (told_to c.publish.new.self ≡ told_to c.args.self.now) × (is_err c.publish.result ≡ true)). inr (c.is_err-self.ensures.value ∙ stays.1))
     (either_way c.publish.result _ _ all c.publish.ensures.none)
 
 pub returns-clause-none : goal.returns-clause-none
-returns-clause-none g c cut = err_so c.publish.result _ c.publish.ensures.none (sym c.is_err.ensures ∙ cut)
+returns-clause-none g c cut = err_so c.publish.result _ c.publish.ensures.none (sym c.is_err-self.ensures.value ∙ cut)
