@@ -9,6 +9,7 @@ use crate::posted::Posted;
 use crate::sight::Sight;
 use desk_model::View;
 use live_board::{Naming, Sightings, Teller};
+use std::sync::Wait;
 
 /// Publishes on a board what the desk sees of the history. It can't be dropped: it ends in `end`, or in `leave` where there is nothing
 /// to report, and both wait for those that still read.
@@ -20,6 +21,20 @@ pub struct BoardTelling<J: Naming> {
     pub(crate) cut: bool,
     ghost counted: { told ≡ length (history (told_by teller)) },
     ghost shown: { IsShown posted teller },
+}
+
+/// What tells a board, with a handle by which it waits where it is dropped: a thread may hold only what can be dropped.
+pub struct HeldTelling<J: Naming, R: Wait + Drop> {
+    pub telling: BoardTelling<J>,
+    pub rt: R,
+}
+
+impl<J: Naming, R: Wait + Drop> Drop for HeldTelling<J, R> {
+    /// Waits for those that still read.
+    fn drop(self) {
+        let HeldTelling { telling, rt } = self;
+        telling.leave(&rt);
+    }
 }
 
 /// What a viewer saw of a history until its end, and what is reported of that.

@@ -14,7 +14,7 @@ ghost use Rattle.desk_core.specs.Sights.{below, HaveLines, AreOfNotes};
 ghost use Rattle.desk_core.specs.Told.{told_to, is_cut};
 ghost use Rattle.desk_model.specs.Views.{AreSeen};
 
-use crate::board_telling::{BoardTelling, Watched};
+use crate::board_telling::{BoardTelling, HeldTelling, Watched};
 use crate::lines::reported;
 use crate::posted::Posted;
 use crate::sight::Sight;
@@ -174,4 +174,32 @@ impl<J: Naming> Telling for BoardTelling<J> {
     }
 
     ghost longer = { λ x B h g p can. (can.0, prefix_trans (history (told_to x)) h g can.1 p) };
+}
+
+impl<J: Naming, R: Wait + Drop> Telling for HeldTelling<J, R> {
+    ghost use Rattle.std.specs.Prelude.{◌≡◌, true};
+    ghost use Rattle.turn_book.proofs.Prefixes.{prefix_trans};
+    ghost use Rattle.live_board.specs.Histories.{history};
+    ghost use Rattle.desk_core.specs.Posts.{HasTold};
+    ghost use Rattle.desk_core.specs.Told.{told_to, is_cut};
+
+    ghost can = { λ x B h. HasTold B h (told_to x.telling) };
+
+    ghost told = { λ x B h. history (told_to x.telling) ≡ h };
+
+    ghost cut = { λ x. is_cut x.telling ≡ true };
+
+    ghost stays = { λ x y. told_to y.telling ≡ told_to x.telling };
+
+    fn tell_more<W: Wait>(
+        &mut self,
+        rt: &W,
+        alloc: Global,
+        turn: &Turn<Book>,
+        pass: &mut Pass<Book>,
+    ) {
+        self.telling.tell_more(rt, alloc, turn, pass);
+    }
+
+    ghost longer = { λ x B h g p can. (can.0, prefix_trans (history (told_to x.telling)) h g can.1 p) };
 }

@@ -78,7 +78,7 @@ mod telling;
 mod tidy;
 mod turned;
 
-pub use board_telling::{BoardTelling, Watched};
+pub use board_telling::{BoardTelling, HeldTelling, Watched};
 pub use book::Book;
 pub use choice::fallback;
 pub use desk_eval::Evaluator;

@@ -91,7 +91,7 @@ pub(crate) fn told_rounds<R: Threads + Wait + Sync, G: Gate, T: Telling>(
 }
 
 /// Has batches taken, with a pass of its own, while the workers make rounds until they agree.
-fn take_and_search<R: Threads + Wait + Sync, G: Gate, T: Telling + Send>(
+fn take_and_search<R: Threads + Wait + Sync, G: Gate, T: Telling + Send + Drop>(
     rt: &R,
     alloc: Global,
     workers: Vec<Worker>,
@@ -151,7 +151,7 @@ fn take_and_search<R: Threads + Wait + Sync, G: Gate, T: Telling + Send>(
 }
 
 /// Has batches taken while the workers make rounds, and goes on with rounds until the workers agree.
-fn beside<R: Threads + Wait + Sync, G: Gate, T: Telling + Send>(
+fn beside<R: Threads + Wait + Sync, G: Gate, T: Telling + Send + Drop>(
     rt: &R,
     alloc: Global,
     workers: Vec<Worker>,
@@ -218,7 +218,7 @@ fn first_and_others(batches: &[Batch]) -> Option<(&Batch, &[Batch])>
 
 /// Has the first batch taken, the others while the workers make rounds, and goes on with rounds until the workers
 /// agree.
-pub(crate) fn live<R: Threads + Wait + Sync, G: Gate, T: Telling + Send>(
+pub(crate) fn live<R: Threads + Wait + Sync, G: Gate, T: Telling + Send + Drop>(
     rt: &R,
     alloc: Global,
     workers: Vec<Worker>,

@@ -59,7 +59,7 @@ fn end_of(vote: Vote) -> Option<SearchEnd>
 
 /// Has the batches taken and searched after, in turn or live, and tells what is new after each batch, and after each search but the
 /// last.
-pub(crate) fn search<R: Threads + Wait + Sync, G: Gate, T: Telling + Send>(
+pub(crate) fn search<R: Threads + Wait + Sync, G: Gate, T: Telling + Send + Drop>(
     rt: &R,
     alloc: Global,
     workers: Vec<Worker>,

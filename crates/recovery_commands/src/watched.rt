@@ -18,7 +18,7 @@ ghost use Rattle.recovery_commands.specs.Closing.{IsTeamBook, IsSeenOf};
 
 use crate::searched::Searched;
 use crate::team::{Team, TeamBook, close_day, search};
-use desk_core::{BoardTelling, Book, MOST_SIGHTS, Posted, Sight, Telling, Watched};
+use desk_core::{BoardTelling, Book, HeldTelling, MOST_SIGHTS, Posted, Sight, Telling, Watched};
 use desk_data::{Batch, Instance, NoMem};
 use desk_folder::Gate;
 use desk_pool::{Worker, open_workers};
@@ -38,7 +38,7 @@ pub(crate) struct WatchedDay {
 }
 
 // Has the batches taken and searched after, and then says that it ended.
-fn search_and_end<R: Threads + Wait + Sync, G: Gate, T: Telling + Send>(
+fn search_and_end<R: Threads + Wait + Sync, G: Gate, T: Telling + Send + Drop>(
     rt: &R,
     alloc: Global,
     workers: Vec<Worker>,
@@ -69,7 +69,12 @@ fn search_and_end<R: Threads + Wait + Sync, G: Gate, T: Telling + Send>(
 }
 
 // Searches the day of a turn by a team while a viewer watches, and notes what it sees.
-fn search_watched<J: Naming + Send + Sync, R: Threads + Wait + Sync, G: Gate, T: Telling + Send>(
+fn search_watched<
+    J: Naming + Send + Sync,
+    R: Threads + Wait + Sync,
+    G: Gate,
+    T: Telling + Send + Drop,
+>(
     rt: &R,
     alloc: Global,
     workers: Vec<Worker>,
@@ -166,9 +171,11 @@ fn watch_turn<J: Naming + Send + Sync, R: Threads + Wait + Sync, G: Gate>(
     requires room { room_of watcher ≡ 63 }
     ensures { IfOk result (λ day. IsTeamBook (day_of turn) batches.now team day.done.book day.done.ended × IsSeenOf day.done.book day.watched) }
 {
-    let (watcher, (pass, searched, telling)) = search_watched(
-        rt, alloc, workers, &turn, pass, gate, batches, team, telling, watcher,
+    let held = HeldTelling { telling, rt };
+    let (watcher, (pass, searched, held)) = search_watched(
+        rt, alloc, workers, &turn, pass, gate, batches, team, held, watcher,
     );
+    let HeldTelling { telling, rt: _ } = held;
     let Ok(came) = searched else {
         telling.leave(rt);
         let _book = turn.close(pass);

@@ -14,7 +14,7 @@ close_day-done-requires-clause-all g c = all_in (known c.args.pass) (known c.sea
 pub end-requires-clause-told : goal.end-requires-clause-told
 end-requires-clause-told g c =
     let B = first_book c.args.turn in
-    (B, sym c.close_day-done.ensures.day.same, told_journal B (seen c.search_watched-watcher.result.1.0) c.close_day-done.result.book.journal (told_to c.search_watched-watcher.result.1.2) c.close_day-done.ensures.journal c.search_watched-watcher.ensures.can)
+    (B, sym c.close_day-done.ensures.day.same, told_journal B (seen c.search_watched-watcher.result.1.0) c.close_day-done.result.book.journal (told_to c.search_watched-watcher.result.1.2.telling) c.close_day-done.ensures.journal c.search_watched-watcher.ensures.can)
 
 pub returns : goal.returns
 returns g c =
