@@ -11,8 +11,8 @@ use desk_model::View;
 use live_board::{Naming, Sightings, Teller};
 use std::sync::Wait;
 
-/// Publishes on a board what the desk sees of the history. It can't be dropped: it ends in `end`, or in `leave` where there is nothing
-/// to report, and both wait for those that still read.
+/// Publishes on a board what the desk sees of the history. It can't be dropped: it ends in `leave`, which waits for those that still
+/// read; a `HeldTelling` can be.
 pub struct BoardTelling<J: Naming> {
     pub(crate) teller: Teller<Sight, Posted, J>,
     /// How many entries are published.

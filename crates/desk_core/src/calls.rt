@@ -79,7 +79,7 @@ impl<J: Naming> BoardTelling<J> {
         self.teller.note()
     }
 
-    /// Ends the board where there is nothing to report. It waits for those that still read.
+    /// Ends the board. It waits for those that still read.
     pub fn leave<R: Wait>(self, rt: &R) {
         let BoardTelling {
             teller,
@@ -107,30 +107,28 @@ impl<J: Naming> BoardTelling<J> {
     /// memory ran out for a tell, now or before, the watcher was told of less than the whole (`told`), and of what it saw the views of
     /// no more entries than that are reported. The only error is out of memory, for what is reported.
     pub fn end<R: Wait>(
-        self,
+        &mut self,
         rt: &R,
         alloc: Global,
         book: &Book,
         watcher: Watcher<Sight, Posted, J>,
     ) -> Result<Watched, NoMem>
-        requires told { (B : Recorded) × (B.opening ≡ book.now.opening) × HasTold B book.now.journal (told_to self) }
+        requires told { (B : Recorded) × (B.opening ≡ book.now.opening) × HasTold B book.now.journal (told_to self.old) }
         requires notes { AreNotes board_shown shows J.book (seen_with watcher) (noted_by watcher) }
         requires room { room_of watcher ≤ 63 }
         // What the watcher saw is what it had noted, and one look more, which shows all that was told, and has seen all that it saw before.
         ensures noted { IfOk result (λ w. IsNoted shows (room_of watcher) (noted_by watcher) (last_in w.sightings) (noted_in w.sightings)) }
         ensures later { IfOk result (λ w. IsPrefix (seen_with watcher) (last_in w.sightings)) }
-        ensures told { IfOk result (λ w. (length (history (told_to self)) ≤ w.told) × (w.told ≤ length book.now.journal)) }
+        ensures told { IfOk result (λ w. (length (history (told_to self.old)) ≤ w.told) × (w.told ≤ length book.now.journal)) }
         ensures saw { IfOk result (λ w. IsPrefix (take w.told book.now.journal) (history (last_in w.sightings))) }
         // What is reported are views of what it had noted, none of those is left out, and the last is that of the whole.
         ensures seen { IfOk result (λ w. AreSeen (opening book.now.opening) book.now.journal w.lines.items) }
         ensures each { IfOk result (λ w. HaveLines (opening book.now.opening) (below w.told book.now.journal) (λ n. history (shows n)) (noted_in w.sightings) w.lines.items) }
         ensures noted_only { IfOk result (λ w. AreOfNotes (opening book.now.opening) (λ n. history (shows n)) (noted_in w.sightings) w.lines.items) }
     {
-        let mut telling = self;
-        telling.tell_last(rt, book);
-        let told = telling.told;
-        let sightings = watcher.end(telling.note());
-        telling.leave(rt);
+        self.tell_last(rt, book);
+        let told = self.told;
+        let sightings = watcher.end(self.note());
         let lines = reported(alloc, book, &sightings, told)?;
         Ok(Watched {
             lines,

@@ -49,6 +49,7 @@
 //!     let mut telling = BoardTelling::new(teller);
 //!     telling.tell_more(rt, alloc, &turn, &mut pass);               // all that the pass then sees is published
 //!     let watched = telling.end(rt, alloc, &book, watcher)?;        // what was seen is reported
+//!     telling.leave(rt);                                            // it waits for those that still read
 //!
 //! A board shows the `View` of desk_model, as a `Sight`. `BoardTelling` publishes on a board of live_board; `TellsNobody` is in its
 //! place where nobody watches.

@@ -175,14 +175,13 @@ fn watch_turn<J: Naming + Send + Sync, R: Threads + Wait + Sync, G: Gate>(
     let (watcher, (pass, searched, held)) = search_watched(
         rt, alloc, workers, &turn, pass, gate, batches, team, held, watcher,
     );
-    let HeldTelling { telling, rt: _ } = held;
+    let mut held = held;
     let Ok(came) = searched else {
-        telling.leave(rt);
         let _book = turn.close(pass);
         return Err(NoMem);
     };
     let done = close_day(turn, pass, batches, team, came);
-    let watched = telling.end(rt, alloc, &done.book, watcher)?;
+    let watched = held.telling.end(rt, alloc, &done.book, watcher)?;
     Ok(WatchedDay { done, watched })
 }
 
